@@ -1,0 +1,7 @@
+pub mod Checked
+pub mod Encoding
+pub mod Lists
+pub mod Promises
+pub mod Rows
+pub mod Texts
+pub mod Unknown

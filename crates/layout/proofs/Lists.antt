@@ -1,0 +1,18 @@
+-- What the laws of rows and of the encoding need of `flatMap`.
+use Prim.Native.Nat.{_%_}
+use native.Mathlib.Omega.{arith}
+use mathlib.Core.Path.{_≡_, refl, sym, ap, _∙_}
+use mathlib.Core.List.{List, [], _∷_, _++_, flatMap, append-assoc}
+use lib.ListN.{length, length-append}
+
+module _ {A B : Type 0} (f : A → List B) where
+  pub flatMap-append : (a b : List A) → flatMap f (a ++ b) ≡ flatMap f a ++ flatMap f b
+  unfolding flatMap
+  flatMap-append [] b = refl
+  flatMap-append (x ∷ a) b = ap (λ (l : List B). f x ++ l) (flatMap-append a b) ∙ sym (append-assoc (f x) (flatMap f a) (flatMap f b))
+
+  -- parts that are multiples of 4 make a multiple of 4
+  pub flatMap-multiple : ((x : A) → length (f x) % 4 ≡ 0) → (a : List A) → length (flatMap f a) % 4 ≡ 0
+  unfolding flatMap
+  flatMap-multiple h [] = refl
+  flatMap-multiple h (x ∷ a) = rw length-append (omega (arith, h x, flatMap-multiple h a))

@@ -1,0 +1,9 @@
+pub mod Checked
+pub mod Encoding
+pub mod Kinds
+pub mod Promises
+pub mod Refusals
+pub mod Rows
+pub mod Sections
+pub mod TextCheck
+pub mod Texts

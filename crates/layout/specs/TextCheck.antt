@@ -1,0 +1,14 @@
+-- What a text must be, wherever it stands: UTF-8, with no NUL inside.
+use mathlib.Core.Bool.{not}
+use mathlib.Core.List.{List}
+use Prim.Native.Nat.{ℕ}
+use Rattle.utf8.specs.Rfc3629.{wellFormed}
+use Rattle.layout.specs.Checked.{Checked, good, check}
+use Rattle.layout.specs.Texts.{hasNul}
+use Rattle.layout.specs.declared.refusal.Refusal.the-variants.{NotUtf8, InnerNul}
+
+unfoldable pub checkText : List ℕ → Checked (Unit {0})
+checkText text =
+    check (wellFormed text) NotUtf8 (λ _.
+    check (not (hasNul text)) InnerNul (λ _.
+    good tt))

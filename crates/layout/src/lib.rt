@@ -1,0 +1,18 @@
+// The SRCI layout's types: section kinds, compression, header sizes, refusals, rows, and the text that a
+// row names. specs/ holds the published layout: sections and their encoding.
+//
+// Proved: every function is total, has no `requires`, and gives just what its definition in specs/ says.
+mod compression;
+mod refusal;
+mod row;
+mod section_type;
+mod text;
+
+pub use compression::MaybeCompression;
+pub use compression::SourceCompression;
+pub use refusal::Answer;
+pub use refusal::Refusal;
+pub use row::Row;
+pub use section_type::SourceInfoSectionType;
+pub use text::bytes_of;
+pub use text::text_of;

@@ -1,0 +1,5 @@
+pub mod Alternatives
+pub mod ClassTable
+pub mod Laws
+pub mod Octets
+pub mod Table

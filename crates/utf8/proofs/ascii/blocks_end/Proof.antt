@@ -1,0 +1,60 @@
+-- `utf8::ascii::blocks_end` meets its contract. The loop's invariant: the blocks that were passed are whole characters.
+-- Assumes nothing.
+use Prim.Native.Nat.{_≤_, _-_}
+use mathlib.Core.Path.{_≡_, refl, _∙_}
+use native.Mathlib.Omega.{arith}
+use lib.ListN.{length, drop}
+use Rattle.utf8.specs.Rfc3629.{octetsFrom}
+use Rattle.utf8.proofs.Octets.{ascii-run}
+use Rattle.utf8.proofs.ascii.blocks_end.Statement.{statement}
+use Rattle.utf8.proofs.ascii.blocks_end.Tie as tie
+
+abbrev Inv-loop : tie.InvT-loop
+Inv-loop text at i₀ i = (at ≤ i) × (i ≤ length text) × (octetsFrom 0 i (drop i text) ≡ octetsFrom 0 at (drop at text))
+
+abbrev μ-loop : tie.MeasureT-loop
+μ-loop text at i₀ i = length text - i
+
+loop-holds : tie.Need-loop-holds Inv-loop μ-loop
+loop-holds c = (omega arith, omega arith, refl)
+
+sub-loop : tie.Need-sub-loop Inv-loop μ-loop
+sub-loop c = omega arith
+
+largest-requires : tie.Need-largest-requires Inv-loop μ-loop
+largest-requires c κs = omega arith
+
+returns : tie.Need-returns Inv-loop μ-loop
+returns c = (omega arith, c .before .before .before .loop .inv .2)
+
+add-i : tie.Need-add-i Inv-loop μ-loop
+add-i c = omega arith
+
+loop-less : tie.Need-loop-less Inv-loop μ-loop
+loop-less c = omega arith
+
+loop-again : tie.Need-loop-again Inv-loop μ-loop
+loop-again c = (
+  omega arith,
+  omega arith,
+  ascii-run _ _ 32 (omega arith) (λ k h. let below : _ = c .before .largest .ensures k h in omega arith) ∙
+      c .before .before .before .loop .inv .2,
+)
+
+returns-2 : tie.Need-returns-2 Inv-loop μ-loop
+returns-2 c = (omega arith, c .before .loop .inv .2)
+
+pub blocks-end-spec : {M : Type 1} → statement M
+blocks-end-spec =
+    tie.close
+    (tie.spec
+    Inv-loop
+    μ-loop
+    loop-holds
+    sub-loop
+    largest-requires
+    returns
+    add-i
+    loop-less
+    loop-again
+    returns-2)

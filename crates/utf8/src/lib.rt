@@ -1,0 +1,54 @@
+// Whether bytes are well-formed UTF-8, by RFC 3629: the check that srci.rs takes from core::str::from_utf8.
+//
+// Proved: the answer is the one that specs/Rfc3629.antt gives from the grammar of the RFC, for every
+// byte string of any length. Nothing is assumed.
+mod ascii;
+mod character;
+mod classes;
+
+ghost use mathlib.Core.Path.{_≡_};
+ghost use Prim.Native.Nat.{_≤_};
+ghost use lib.ListN.{length, drop};
+ghost use Rattle.utf8.specs.Rfc3629.{octetsFrom, utf8Of};
+ghost use Rattle.utf8.specs.Classes.{ClassTable};
+
+// What the check answers.
+pub enum Utf8 {
+    WellFormed,
+    // The first ill-formed sequence begins at this byte, and all before it is well formed.
+    IllFormed(usize),
+}
+
+// The table of classes is lent from here, so that it is made once for a text and not for each character,
+// and not at all for a text of ASCII alone.
+pub fn validate(text: &[u8]) -> Utf8
+    ensures { λ r. ⌜ r ≡ utf8Of (now (text .entry)) ⌝ }
+{
+    let at = ascii::run_end(text, 0);
+    if at == text.len() {
+        return Utf8::WellFormed;
+    }
+    read_octets(text, at, &classes::CLASSES)
+}
+
+// Reads on from a place: passes over a run of ASCII at a time, and over any other character by the class
+// of its first byte.
+fn read_octets(text: &[u8], from: usize, table: &[u8; 256]) -> Utf8
+    requires { ⌜ from ≤ length (now text) ⌝ }
+    requires { ⌜ ClassTable (now table) ⌝ }
+    ensures { λ r. ⌜ r ≡ octetsFrom 0 from (drop from (now (text .entry))) ⌝ }
+{
+    let mut at = from;
+    while at < text.len() {
+        if text[at] < 0x80 {
+            at = ascii::run_end(text, at + 1);
+        } else {
+            let count = character::length(text, at, table);
+            if count == 0 {
+                return Utf8::IllFormed(at);
+            }
+            at += count;
+        }
+    }
+    Utf8::WellFormed
+}

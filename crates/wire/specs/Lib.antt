@@ -1,0 +1,4 @@
+pub mod Length
+pub mod Number
+pub mod Padding
+pub mod Promises

@@ -1,0 +1,4 @@
+pub mod Resolve
+pub mod Rules
+pub mod Samples
+pub mod Write
