@@ -23,6 +23,11 @@ unfoldable pub then : {A B : Type 0} → Checked A → (A → Checked B) → Che
 then (fault refusal) next = fault refusal
 then (good a) next = next a
 
+-- whether there is a value
+abbrev pub isGood : {A : Type 0} → Checked A → Bool
+isGood (fault refusal) = false
+isGood (good a) = true
+
 -- what a call that lends room for some bytes answers
 unfoldable pub answer : Checked (List ℕ) → ℕ → Answer
 answer (fault refusal) room = Refused refusal

@@ -1,8 +1,8 @@
--- The text or bytes that a row names, and where a text ends.
+-- The text or bytes that a row names.
 use Prim.Native.Nat.{ℕ, zero, suc, _+_}
-use mathlib.Core.Bool.{Bool, true, false}
-use mathlib.Core.List.{List, [], _∷_}
-use lib.Dec.{eqb, leb, ltb}
+use mathlib.Core.Bool.{Bool}
+use mathlib.Core.List.{List}
+use lib.Dec.{leb}
 use lib.ListN.{length, take, drop}
 
 -- side 0 is the payload, any other the edit text
@@ -17,12 +17,3 @@ part bytes start count = take count (drop start bytes)
 -- whether count bytes from start on are all there
 abbrev pub inside : List ℕ → ℕ → ℕ → Bool
 inside bytes start count = leb (start + count) (length bytes)
-
--- how many bytes stand before the first NUL; all of them where there is none
-unfoldable pub untilNul : List ℕ → ℕ
-untilNul [] = 0
-untilNul (b ∷ s) = elim (eqb b 0) [ true ↦ 0 | false ↦ suc (untilNul s) ]
-
--- whether there is a NUL
-abbrev pub hasNul : List ℕ → Bool
-hasNul s = ltb (untilNul s) (length s)

@@ -7,6 +7,7 @@ mod refusal;
 mod row;
 mod section_type;
 mod text;
+mod text_check;
 
 pub use compression::MaybeCompression;
 pub use compression::SourceCompression;
@@ -16,3 +17,5 @@ pub use row::Row;
 pub use section_type::SourceInfoSectionType;
 pub use text::bytes_of;
 pub use text::text_of;
+pub use text_check::Check;
+pub use text_check::check_text;

@@ -1,13 +1,14 @@
 -- The public facts of an accepted payload, taken from its bytes by the layout: sections by their size fields, entries by theirs, with
--- the count fields. It uses neither rows nor the public copy, of which the promises compare it with both.
+-- the count fields. Nothing here speaks of rows or of the public copy.
 use Prim.Native.Nat.{ℕ, zero, suc, _+_, _-_}
 use mathlib.Core.Bool.{Bool}
 use mathlib.Core.List.{List, [], _∷_, _++_}
 use lib.Dec.{eqb}
 use lib.ListN.{length, drop}
+use Rattle.wire.specs.Nul.{untilNul}
 use Rattle.wire.specs.Number.{u16At, u32At}
 use Rattle.layout.specs.Sections.{Pair}
-use Rattle.layout.specs.Texts.{part, untilNul}
+use Rattle.layout.specs.Texts.{part}
 
 -- of a section of kind 0, 1 or 2: its count field, and
 pub data Fact : Type 0 where

@@ -1,2 +1,5 @@
+pub mod Outcome
 pub mod Parse
+pub mod Promises
 pub mod Read
+pub mod Walk

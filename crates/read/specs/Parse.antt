@@ -5,6 +5,7 @@ use mathlib.Core.List.{List, [], _∷_, _++_}
 use lib.Dec.{leb, ltb, eqb}
 use lib.ListN.{length}
 use Rattle.wire.specs.Length.{wireSize}
+use Rattle.wire.specs.Nul.{untilNul, hasNul}
 use Rattle.wire.specs.Number.{byteAt, u16At, u32At}
 use Rattle.wire.specs.Padding.{padding, aligned, allZero}
 use Rattle.utf8.specs.Rfc3629.{wellFormed}
@@ -12,7 +13,7 @@ use Rattle.layout.specs.Checked.{Checked, good, check, then}
 use Rattle.layout.specs.Encoding.{limit}
 use Rattle.layout.specs.Rows.{row}
 use Rattle.layout.specs.TextCheck.{checkText}
-use Rattle.layout.specs.Texts.{part, untilNul, hasNul}
+use Rattle.layout.specs.Texts.{part}
 use Rattle.layout.specs.declared.row.Row.{Row}
 use Rattle.layout.specs.declared.refusal.Refusal.the-variants.{Oversize, Ragged, MainHeader, Frame, Flag, Short, BodySize, Padding, EntrySize, OpenText, NotUtf8, Leftover, Compression, Unequal}
 
@@ -53,15 +54,21 @@ pairText p at end =
     check (wellFormed (part p at (untilNul rest))) NotUtf8 (λ _.
     good (untilNul rest)))
 
--- as many pairs as the count says, up to `end`
+-- a pair: its name, then its value. Gives its row.
+unfoldable pub pair : List ℕ → ℕ → ℕ → Checked Row
+pair p at end =
+    then (pairText p at end) (λ name.
+    let start : ℕ = at + wireSize name in
+    then (pairText p start end) (λ value.
+    good (row 7 0 at name start value 0)))
+
+-- as many pairs as the count says, up to `end`; the next one stands after the value, which the row's c and d tell
 unfoldable pub pairs : ℕ → List ℕ → ℕ → ℕ → Checked (List Row)
 pairs zero p at end = check (eqb at end) Leftover (λ _. good [])
 pairs (suc count) p at end =
-    then (pairText p at end) (λ name.
-    let start : ℕ = at + name + 1 in
-    then (pairText p start end) (λ value.
-    then (pairs count p (start + value + 1) end) (λ rows.
-    good (row 7 0 at name start value 0 ∷ rows))))
+    then (pair p at end) (λ r.
+    then (pairs count p (r .c + wireSize (r .d)) end) (λ rows.
+    good (r ∷ rows)))
 
 -- a section's size is that of its headers and stored bytes, padded, and the padding is zero
 unfoldable pub framed : List ℕ → ℕ → ℕ → ℕ → ℕ → Checked (Unit {0})

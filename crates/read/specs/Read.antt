@@ -1,10 +1,10 @@
 -- The job of reading, with a lent table: its answer, and the table afterwards.
 use Prim.Native.Nat.{ℕ, _*_, _/_}
-use mathlib.Core.Bool.{Bool, true, false, cond}
+use mathlib.Core.Bool.{Bool, cond}
 use mathlib.Core.List.{List, _++_}
 use lib.Dec.{leb}
 use lib.ListN.{length, drop}
-use Rattle.layout.specs.Checked.{Checked, fault, good}
+use Rattle.layout.specs.Checked.{Checked, fault, good, isGood}
 use Rattle.layout.specs.Rows.{width, tableOf}
 use Rattle.layout.specs.declared.row.Row.{Row}
 use Rattle.layout.specs.declared.refusal.Refusal.the-variants.{NoRows}
@@ -32,11 +32,6 @@ readAnswer payload numbers = rowsAnswer (parse payload) numbers
 unfoldable pub readTable : List ℕ → List ℕ → List ℕ
 readTable payload table = rowsStored (parse payload) table
 
-isGood : {A : Type 0} → Checked A → Bool
-isGood (fault refusal) = false
-isGood (good a) = true
-
 -- whether a payload is accepted: none of 1 to 15 applies, however few rows are lent
 unfoldable pub accepted : List ℕ → Bool
-unfolding isGood
 accepted payload = isGood (parse payload)

@@ -1,1 +1,40 @@
-// Reading a payload into rows. So far this crate holds the definition of reading, in specs/, and no code.
+// Reading a payload into rows: the port of parse_srci.
+//
+// A first pass checks the payload and counts its rows, and stores nothing (`parse_srci` and what it
+// calls). A second pass walks the checked payload and stores the rows (`fill_srci` and what it calls).
+//
+// Proved: the answer and the table afterwards are those that specs/ defines, for every byte string and
+// every table. Nothing is assumed.
+mod arguments;
+mod contents;
+mod entries;
+mod fill;
+mod framing;
+mod names;
+mod outcome;
+mod source_info;
+
+ghost use mathlib.Core.Path.{_≡_};
+ghost use lib.ListN.{length};
+ghost use Rattle.read.specs.Read.{readAnswer, readTable};
+use crate::outcome::Counted;
+use layout::Answer;
+use layout::Refusal;
+use layout::Row;
+
+// Reads a payload into the rows of a lent table, whole, or refuses it and leaves the table as it was.
+pub fn read(payload: &[u8], rows: &mut [u32]) -> Answer
+    ensures { λ r. ⌜ r ≡ readAnswer (now (payload .entry)) (length (now (rows .entry))) ⌝ }
+    ensures { λ _. ⌜ now (rows .exit) ≡ readTable (now (payload .entry)) (now (rows .entry)) ⌝ }
+{
+    match source_info::parse_srci(payload) {
+        Counted::Refused(refusal) => Answer::Refused(refusal),
+        Counted::Rows(count) => {
+            if (rows.len() / Row::WIDTH) < count as usize {
+                return Answer::Refused(Refusal::NoRows(count));
+            }
+            fill::fill_srci(payload, rows);
+            Answer::Accepted(count)
+        }
+    }
+}

@@ -1,10 +1,11 @@
--- A text's length and its wire size convert both ways, and a size that is too large has no text.
+-- A text's length and its wire size convert both ways, and only 0 and sizes that are too large have no text.
 -- Assumes nothing.
 use mathlib.Core.Path.{_≡_, refl, ap}
 use mathlib.Core.Bool.{Bool, true, false}
 use Prim.Native.Nat.{ℕ, zero, suc, _+_, _^_, _<_}
 use native.Mathlib.Numerals.{add-one}
 use native.Mathlib.Nat.{le-of-suc-le-suc}
+use native.Mathlib.Omega.{arith}
 use lib.Dec.{ltb}
 use borrow.Author.Tests.{lt-ltb, le-ltb}
 use Rattle.wire.specs.Length.{wireSize, terminated}
@@ -29,3 +30,10 @@ pub terminated-past : (s : ℕ) → 2 ^ 32 < s → terminated s ≡ Nothing
 unfolding terminated
 terminated-past zero h = refl
 terminated-past (suc n) h = rw (le-ltb n (2 ^ 32) (le-of-suc-le-suc h), terminated)
+
+-- of the sizes that a number of 32 bits can hold, only 0 has none
+pub no-text : (s : ℕ) → s < 2 ^ 32 → terminated s ≡ Nothing → s ≡ 0
+no-text zero h e = refl
+no-text (suc n) h e =
+    let f : terminated (suc n) ≡ Text (record { 0 = n }) = rw add-one at (terminated-wireSize n (omega arith)) in
+    cc

@@ -1,4 +1,5 @@
 pub mod LengthLaws
+pub mod NulLaws
 pub mod NumberLaws
 pub mod PaddingLaws
 pub mod Promises

@@ -1,4 +1,5 @@
 pub mod Length
+pub mod Nul
 pub mod Number
 pub mod Padding
 pub mod Promises

@@ -4,12 +4,14 @@
 // Proved: every function is total, has no `requires`, and answers or stores just what its definition in
 // specs/ says. Bytes past the end of a slice read as 0, and what would be stored past the end is dropped.
 mod length;
+mod nul;
 mod number;
 mod padding;
 
 pub use length::Terminated;
 pub use length::TextLength;
 pub use length::WireSize;
+pub use nul::find_nul;
 pub use number::read_u16;
 pub use number::read_u32;
 pub use number::write_u16;

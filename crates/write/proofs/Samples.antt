@@ -2,6 +2,7 @@
 -- Assumes nothing.
 use mathlib.Core.Path.{refl}
 use mathlib.Core.List.{flatMap}
+use Rattle.wire.specs.Nul.{untilNul}
 use Rattle.wire.specs.Number.{littleEndian, bytesOf}
 use Rattle.wire.specs.Padding.{padding, aligned, allZero}
 use Rattle.utf8.specs.Rfc3629.{wellFormed, utf8Of, octetsFrom, charLength, firstLength, begins}
@@ -10,7 +11,7 @@ use Rattle.layout.specs.Checked.{check, then, answer}
 use Rattle.layout.specs.Encoding.{fits, allFit, encode, encodeSection}
 use Rattle.layout.specs.Rows.{tableOf, rowsOf}
 use Rattle.layout.specs.TextCheck.{checkText}
-use Rattle.layout.specs.Texts.{untilNul, sideOf}
+use Rattle.layout.specs.Texts.{sideOf}
 use Rattle.read.specs.Parse as Parse
 use Rattle.read.specs.Parse.{parse, sections, frame, body, contents, names, framed, entries, entry, terminatedText}
 use Rattle.read.specs.Read.{readAnswer, readTable, rowsAnswer, rowsStored}

@@ -1,0 +1,181 @@
+-- `fill::fill_section` meets its contract: the kind says which walk it is, and what the section holds ends within it.
+use Prim.Native.Nat.{_+_, _≤_}
+use mathlib.Core.List.{List}
+use mathlib.Core.Path.{_≡_, sym, ap, _∙_}
+use native.Mathlib.Omega.{arith}
+use borrow.Author.Needs.{needs}
+use Rattle.wire.specs.Number.{u16At, u32At}
+use Rattle.layout.specs.Checked.{good}
+use Rattle.layout.specs.Kinds.{sectionType, kind}
+use Rattle.layout.specs.declared.row.Row.{Row}
+use Rattle.layout.specs.declared.section_type.SourceInfoSectionType.{SourceInfoSectionType}
+use Rattle.layout.specs.declared.section_type.SourceInfoSectionType.the-variants.{SourceContents, SourceNames, Arguments}
+use Rattle.layout.proofs.Promises.{kind-has-number}
+use Rattle.read.specs.Parse.{body}
+use Rattle.read.specs.Walk.{storeRows, entriesEnd, pairsEnd, walkSection}
+use Rattle.read.proofs.Steps.{is-good}
+use Rattle.read.proofs.Walking.{length-walkEntries, entries-forward, length-walkPairs, pairs-forward, unknown-walk}
+use Rattle.read.proofs.WalkLaws.{names-walk, arguments-walk}
+use Rattle.read.proofs.fill.fill_section.Statement.{statement}
+use Rattle.read.proofs.fill.fill_section.Tie as tie
+
+-- the kind's number, and the good body of that kind
+kind-told :
+    (c : tie.After-from-u16) (t : SourceInfoSectionType) →
+    c .from-u16 .result ≡ t →
+    (let a = c .before .before .before .before .args in u16At (a .payload .now) (a .at + 6) ≡ kind t)
+kind-told c t e =
+    let number = c .before .read-u16 in
+    sym (number .ensures) ∙ sym (kind-has-number (number .result)) ∙ ap kind (sym (c .from-u16 .ensures) ∙ e)
+
+body-told :
+    (c : tie.After-from-u16) (t : SourceInfoSectionType) →
+    c .from-u16 .result ≡ t →
+    (let a = c .before .before .before .before .args in
+    (rs : List Row) × (body (kind t) (a .payload .now) (a .at) (u32At (a .payload .now) (a .at)) ≡ good rs))
+body-told c t e = is-good _ (rw (kind-told c t e) at (c .before .before .before .before .pre .0))
+
+fill-contents-requires : tie.Need-fill-contents-requires
+unfolding body
+fill-contents-requires c κs =
+    let told = c .before in
+    let section = told .before .before in
+    let pre = section .before .before .before .before .pre in
+    (rw (kind-told section SourceContents (told .enum-told .given .1)) at (pre .0), pre .1 .1)
+
+-- the entries of names, and the pairs of arguments, end within the section
+names-within :
+    (c : tie.After-enum-told2) →
+    (let a = c .before .before .before .before .before .before .args in
+    entriesEnd (a .payload .now) (u32At (a .payload .now) (a .at + 12)) (a .at + 18) ≤ a .at + u32At (a .payload .now) (a .at))
+unfolding body
+names-within c =
+    let section = c .before .before in
+    let a = section .before .before .before .before .args in
+    let whole = body-told section SourceNames (c .enum-told2 .given .1) in
+    names-walk (a .payload .now) (a .at) (u32At (a .payload .now) (a .at)) (whole .0) (whole .1) .1
+
+fill-entries-requires : tie.Need-fill-entries-requires
+fill-entries-requires c κs =
+    let count = c .before in
+    let told = count .before .before .before .before .before .before in
+    let start = told .before .before .before .before .before .before in
+    let a = start .args in
+    rw (count .read-u32 .ensures) (omega (
+      arith,
+      names-within told,
+      entries-forward (a .payload .now) (u32At (a .payload .now) (a .at + 12)) (a .at + 18),
+      start .pre .1,
+    ))
+
+arguments-within :
+    (c : tie.After-enum-told3) →
+    (let a = c .before .before .before .before .before .before .args in
+    pairsEnd (a .payload .now) (u32At (a .payload .now) (a .at + 16)) (a .at + 20) ≤ a .at + u32At (a .payload .now) (a .at))
+unfolding body
+arguments-within c =
+    let section = c .before .before in
+    let a = section .before .before .before .before .args in
+    let whole = body-told section Arguments (c .enum-told3 .given .1) in
+    arguments-walk (a .payload .now) (a .at) (u32At (a .payload .now) (a .at)) (whole .0) (whole .1) .1
+
+fill-pairs-requires : tie.Need-fill-pairs-requires
+fill-pairs-requires c κs =
+    let count = c .before in
+    let told = count .before .before .before .before .before .before in
+    let start = told .before .before .before .before .before .before in
+    let a = start .args in
+    rw (count .read-u322 .ensures) (omega (
+      arith,
+      arguments-within told,
+      pairs-forward (a .payload .now) (u32At (a .payload .now) (a .at + 16)) (a .at + 20),
+      start .pre .1,
+    ))
+
+unknown-row-requires : tie.Need-unknown-row-requires
+unknown-row-requires c κs = omega (arith, c .before .before .before .before .before .before .before .pre .1)
+
+returns : tie.Need-returns
+unfolding walkSection
+returns c =
+    let call = c .before .before in
+    let told = call .before .before in
+    rw (kind-told (told .before .before) SourceContents (told .enum-told .given .1)) (call .fill-contents .ensures)
+
+returns-2 : tie.Need-returns-2
+unfolding storeRows walkSection
+returns-2 c =
+    let count = c .before .before .before .before in
+    let told = count .before .before .before .before .before .before in
+    let section = told .before .before in
+    let a = section .before .before .before .before .args in
+    rw (kind-told section SourceNames (told .enum-told2 .given .1)) (
+      omega (arith, count .read-u32 .ensures, length-walkEntries (a .payload .now) 16 (u32At (a .payload .now) (a .at + 12)) (a .at + 18)),
+      cc,
+    )
+
+returns-3 : tie.Need-returns-3
+unfolding storeRows walkSection
+returns-3 c =
+    let count = c .before .before .before .before in
+    let told = count .before .before .before .before .before .before in
+    let section = told .before .before in
+    let a = section .before .before .before .before .args in
+    rw (kind-told section Arguments (told .enum-told3 .given .1)) (
+      omega (arith, count .read-u322 .ensures, length-walkPairs (a .payload .now) (u32At (a .payload .now) (a .at + 16)) (a .at + 20)),
+      cc,
+    )
+
+returns-4 : tie.Need-returns-4
+unfolding storeRows
+returns-4 c =
+    let told = c .before .before .before .before .before .before in
+    let section = told .before .before in
+    let a = section .before .before .before .before .args in
+    let number = kind-told section _ (told .kind .given .1) in
+    let type = ap sectionType (sym (section .before .read-u16 .ensures)) ∙ sym (section .from-u16 .ensures) ∙ told .kind .given .1 in
+    rw (unknown-walk (a .payload .now) _ _ (a .at) type) (omega arith, cc)
+
+pub fill-section-spec : {M : Type 1} → statement M
+fill-section-spec =
+    tie.close
+    (tie.spec
+    (λ c. search needs)
+    (λ c κs. search needs)
+    (λ c κs. search needs)
+    (λ c. search needs)
+    fill-contents-requires
+    (λ c. search needs)
+    (λ c κs. search needs)
+    (λ c κs. search needs)
+    (λ c. search needs)
+    (λ c κs. search needs)
+    (λ c. search needs)
+    (λ c. search needs)
+    fill-entries-requires
+    (λ c. search needs)
+    (λ c. search needs)
+    (λ c. search needs)
+    (λ c. search needs)
+    (λ c κs. search needs)
+    (λ c κs. search needs)
+    (λ c. search needs)
+    (λ c κs. search needs)
+    (λ c. search needs)
+    (λ c. search needs)
+    fill-pairs-requires
+    (λ c. search needs)
+    (λ c. search needs)
+    (λ c. search needs)
+    (λ c. search needs)
+    unknown-row-requires
+    (λ c κs. search needs)
+    (λ c. search needs)
+    (λ c. search needs)
+    returns
+    (λ c. search needs)
+    returns-2
+    (λ c. search needs)
+    returns-3
+    (λ c. search needs)
+    returns-4)

@@ -1,0 +1,36 @@
+// Name sections.
+ghost use mathlib.Core.Path.{_≡_};
+ghost use Prim.Native.Nat.{_+_, _≤_};
+ghost use lib.ListN.{length};
+ghost use Rattle.layout.specs.Encoding.{limit};
+ghost use Rattle.read.specs.Parse.{names};
+ghost use Rattle.read.specs.Outcome.{counted};
+use crate::entries::check_entries;
+use crate::framing::check_framed;
+use crate::outcome::Counted;
+use layout::Check;
+use layout::Refusal;
+
+// The names section of a size at a place.
+pub fn parse_names(payload: &[u8], at: usize, size: usize) -> Counted
+    requires { ⌜ at + size ≤ length (now payload) ⌝ }
+    requires { ⌜ length (now payload) ≤ limit ⌝ }
+    ensures { λ r. ⌜ r ≡ counted (names (now (payload .entry)) at size) ⌝ }
+{
+    if size < 18 {
+        return Counted::Refused(Refusal::Short);
+    }
+    if wire::read_u32(payload, at + 8) != 0 {
+        return Counted::Refused(Refusal::Flag);
+    }
+    let bytes = wire::read_u16(payload, at + 16);
+    if let Check::Refused(refusal) = check_framed(payload, at, size, 18, bytes as u32) {
+        return Counted::Refused(refusal);
+    }
+    let start = at + 18;
+    let count = wire::read_u32(payload, at + 12);
+    match check_entries(payload, 16, count, start, start + bytes as usize) {
+        Counted::Refused(refusal) => Counted::Refused(refusal),
+        Counted::Rows(entries) => Counted::Rows(1 + entries),
+    }
+}

@@ -1,0 +1,21 @@
+// The C entry points: for C and Rust programs, which link target/staticlib/libsrci.a.
+//
+// A slice passes as a pointer and a length in elements. No function has a `requires`: every byte string
+// and every table may be passed.
+ghost use mathlib.Core.Path.{_≡_};
+ghost use lib.ListN.{length};
+ghost use Rattle.layout.specs.Refusals.{answerNumber, answerSecond};
+ghost use Rattle.read.specs.Read.{readAnswer, readTable};
+
+// Reads a payload into the rows of a lent table. Answers 0, or the refusal's number. Stores in `second`
+// how many rows were stored, or the refusal's second number.
+#[no_mangle]
+pub extern "C" fn srci_read(payload: &[u8], rows: &mut [u32], second: &mut u32) -> u32
+    ensures { λ r. ⌜ r ≡ answerNumber (readAnswer (now (payload .entry)) (length (now (rows .entry)))) ⌝ }
+    ensures { λ _. ⌜ now (rows .exit) ≡ readTable (now (payload .entry)) (now (rows .entry)) ⌝ }
+    ensures { λ _. ⌜ now (second .exit) ≡ answerSecond (readAnswer (now (payload .entry)) (length (now (rows .entry)))) ⌝ }
+{
+    let answer = read::read(payload, rows);
+    *second = answer.second();
+    answer.number()
+}

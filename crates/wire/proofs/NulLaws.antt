@@ -1,0 +1,70 @@
+-- The laws of the first NUL: where it stands, what stands before it, and a step over bytes that are none.
+-- Assumes nothing.
+use mathlib.Core.Path.{_≡_, refl, ap, _∙_}
+use mathlib.Core.List.{List, [], _∷_}
+use Prim.Native.Nat.{ℕ, zero, suc, _+_, _≤_, _<_}
+use native.Mathlib.Nat.{add-zero}
+use native.Mathlib.Numerals.{add-one}
+use native.Mathlib.Omega.{arith}
+use lib.Dec.{eqb·suc-zero}
+use lib.ListN.{length, getD, take, drop, List·getD-eq-default}
+use lib.Seq.{drop-cons, drop-nil}
+use borrow.Author.Tests.{ne-eqb}
+use Rattle.wire.specs.Nul.{untilNul}
+
+over : (b : ℕ) (s : List ℕ) → untilNul (suc b ∷ s) ≡ suc (untilNul s)
+unfolding untilNul
+over b s = rw (eqb·suc-zero, untilNul)
+
+pub until-length : (s : List ℕ) → untilNul s ≤ length s
+unfolding untilNul
+until-length [] = omega arith
+until-length (zero ∷ s) = omega arith
+until-length (suc b ∷ s) = omega (arith, over b s, until-length s)
+
+pub until-at : (s : List ℕ) → untilNul s < length s → getD s (untilNul s) 0 ≡ 0
+unfolding untilNul
+until-at [] h = refl
+until-at (zero ∷ s) h = refl
+until-at (suc b ∷ s) h = ap (λ (n : ℕ). getD (suc b ∷ s) n 0) (over b s) ∙ until-at s (omega (arith, over b s))
+
+pub until-before : (s : List ℕ) (k : ℕ) → k < untilNul s → getD s k 0 ≡ 0 → ⊥
+unfolding untilNul
+until-before [] k h e = omega arith
+until-before (zero ∷ s) k h e = omega arith
+until-before (suc b ∷ s) zero h e = omega arith
+until-before (suc b ∷ s) (suc k) h e = until-before s k (omega (arith, over b s)) e
+
+-- a NUL inside a prefix is the first of the whole
+pub until-prefix : (s : List ℕ) (n : ℕ) → untilNul s < n → untilNul (take n s) ≡ untilNul s
+unfolding untilNul
+until-prefix s zero h = omega arith
+until-prefix [] (suc n) h = refl
+until-prefix (zero ∷ s) (suc n) h = refl
+until-prefix (suc b ∷ s) (suc n) h =
+    omega (arith, over b s, over b (take n s), until-prefix s n (omega (arith, over b s)))
+
+-- ---- from a place on
+
+pub until-step : (s : List ℕ) (i : ℕ) → i < length s → (getD s i 0 ≡ 0 → ⊥) → untilNul (drop i s) ≡ suc (untilNul (drop (i + 1) s))
+unfolding untilNul
+until-step s i h n = rw (add-one, drop-cons s i 0 h, ne-eqb (getD s i 0) 0 n, untilNul)
+
+-- a place past the end reads as 0
+pub until-nul : (s : List ℕ) (i : ℕ) → getD s i 0 ≡ 0 → untilNul (drop i s) ≡ 0
+unfolding untilNul
+until-nul [] i e = ap untilNul (drop-nil i)
+until-nul (b ∷ s) zero e = rw e
+until-nul (b ∷ s) (suc i) e = until-nul s i e
+
+pub until-past : (s : List ℕ) (i : ℕ) → length s ≤ i → untilNul (drop i s) ≡ 0
+until-past s i h = until-nul s i (List·getD-eq-default s 0 h)
+
+-- a step over a run without a NUL
+pub until-run : (s : List ℕ) (i n : ℕ) → i + n ≤ length s → ((k : ℕ) → k < n → 0 < getD s (i + k) 0) → i + n + untilNul (drop (i + n) s) ≡ i + untilNul (drop i s)
+until-run s i zero h a = ap (λ (m : ℕ). m + untilNul (drop m s)) (add-zero i)
+until-run s i (suc n) h a =
+    let last : _ = a n (omega arith) in
+    ap (λ (m : ℕ). m + untilNul (drop m s)) (let e : i + suc n ≡ i + n + 1 = omega arith in e) ∙
+    omega (arith, until-step s (i + n) (omega arith) (λ e. omega arith)) ∙
+    until-run s i n (omega arith) (λ k l. a k (omega arith))

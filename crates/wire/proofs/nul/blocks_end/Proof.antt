@@ -1,0 +1,59 @@
+-- `wire::nul::blocks_end` meets its contract. The loop's invariant: no block that was passed has a NUL.
+-- Assumes nothing.
+use Prim.Native.Nat.{_+_, _≤_, _-_}
+use mathlib.Core.Path.{_≡_, refl, _∙_}
+use native.Mathlib.Omega.{arith}
+use lib.ListN.{length, drop}
+use Rattle.wire.specs.Nul.{untilNul}
+use Rattle.wire.proofs.NulLaws.{until-run}
+use Rattle.wire.proofs.nul.blocks_end.Statement.{statement}
+use Rattle.wire.proofs.nul.blocks_end.Tie as tie
+
+abbrev Inv-loop : tie.InvT-loop
+Inv-loop bytes at i₀ i = (i ≤ length bytes) × (i + untilNul (drop i bytes) ≡ at + untilNul (drop at bytes))
+
+abbrev μ-loop : tie.MeasureT-loop
+μ-loop bytes at i₀ i = length bytes - i
+
+loop-holds : tie.Need-loop-holds Inv-loop μ-loop
+loop-holds c = (omega arith, refl)
+
+sub-loop : tie.Need-sub-loop Inv-loop μ-loop
+sub-loop c = omega arith
+
+smallest-requires : tie.Need-smallest-requires Inv-loop μ-loop
+smallest-requires c κs = omega arith
+
+returns : tie.Need-returns Inv-loop μ-loop
+returns c = (omega arith, c .before .before .before .loop .inv .1)
+
+add-i : tie.Need-add-i Inv-loop μ-loop
+add-i c = omega arith
+
+loop-less : tie.Need-loop-less Inv-loop μ-loop
+loop-less c = omega arith
+
+loop-again : tie.Need-loop-again Inv-loop μ-loop
+loop-again c = (
+  omega arith,
+  until-run _ _ 32 (omega arith) (λ k h. let below : _ = c .before .smallest .ensures k h in omega arith) ∙
+      c .before .before .before .loop .inv .1,
+)
+
+returns-2 : tie.Need-returns-2 Inv-loop μ-loop
+returns-2 c = (omega arith, c .before .loop .inv .1)
+
+pub blocks-end-spec : {M : Type 1} → statement M
+blocks-end-spec =
+    tie.close
+    (tie.spec
+    Inv-loop
+    μ-loop
+    loop-holds
+    sub-loop
+    smallest-requires
+    returns
+    add-i
+    loop-less
+    loop-again
+    returns-2)

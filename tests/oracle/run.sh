@@ -1,0 +1,32 @@
+#!/usr/bin/env bash
+# Builds the oracle from this folder, srci.rs and libsrci.a, and runs it.
+#
+#   tests/oracle/run.sh PATH_TO_SRCI_RS COUNT SEED          compare: every boundary, then COUNT random payloads
+#   tests/oracle/run.sh PATH_TO_SRCI_RS bench               time reading against parse_srci
+#   tests/oracle/run.sh PATH_TO_SRCI_RS rows COUNT SEED     print calls with the answers that the Rust gives
+#
+# It needs rustc, and for the first two target/staticlib/libsrci.a, which `rt staticlib srci` makes.
+set -eu
+[ $# -ge 2 ] || { sed -n '4,6s/^# *//p' "$0" >&2; exit 2; }
+here=$(cd "$(dirname "$0")" && pwd)
+build=$here/../../target/oracle
+library=$here/../../target/staticlib
+[ -f "$1" ] || { echo "no file $1" >&2; exit 2; }
+mkdir -p "$build"
+# chunks.rs names srci.rs by this link; the file itself is read where it stands, as it is
+ln -sf "$(realpath "$1")" "$build/srci.rs"
+shift
+rust() { rustc --edition 2021 -O --out-dir "$build" "$@"; }
+# srci.rs is not ours to lint
+rust --cap-lints allow --crate-type rlib --crate-name chunks "$here/chunks.rs"
+if [ "$1" = rows ]; then
+    shift
+    rust --crate-name rows --extern "chunks=$build/libchunks.rlib" "$here/rows.rs"
+    exec "$build/rows" "$@"
+fi
+if [ ! -f "$library/libsrci.a" ]; then
+    echo "no target/staticlib/libsrci.a: run 'rt staticlib srci' first" >&2
+    exit 2
+fi
+rust --crate-name oracle --extern "chunks=$build/libchunks.rlib" -L "native=$library" "$here/main.rs"
+exec "$build/oracle" "$@"
