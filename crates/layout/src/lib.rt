@@ -9,6 +9,9 @@ mod section_type;
 mod text;
 mod text_check;
 
+// The most bytes that a payload holds: an attachment's limit.
+pub const PAYLOAD_LIMIT: usize = 26_214_400;
+
 pub use compression::MaybeCompression;
 pub use compression::SourceCompression;
 pub use refusal::Answer;

@@ -11,8 +11,15 @@ use crate::outcome::MaybePlace;
 use crate::outcome::MaybeText;
 use layout::Check;
 use layout::Refusal;
+use layout::SourceInfoSectionType;
 use utf8::Utf8;
 use wire::TextLength;
+
+// Where the pairs start in their section.
+pub const PAIRS_START: usize = SourceInfoSectionType::SECTION_HEADER_SIZE
+    + SourceInfoSectionType::ARGS_HEADER_SIZE;
+
+const HEADERS: u32 = PAIRS_START as u32;
 
 // The text from a place on, which ends at the first NUL before `end`.
 fn check_pair_text(payload: &[u8], at: usize, end: usize) -> MaybeText
@@ -81,17 +88,17 @@ pub fn parse_arguments(payload: &[u8], at: usize, size: usize) -> Counted
     requires { ⌜ length (now payload) ≤ limit ⌝ }
     ensures { λ r. ⌜ r ≡ counted (arguments (now (payload .entry)) at size) ⌝ }
 {
-    if size < 20 {
+    if size < PAIRS_START {
         return Counted::Refused(Refusal::Short);
     }
     if wire::read_u32(payload, at + 8) != 0 {
         return Counted::Refused(Refusal::Flag);
     }
     let bytes = wire::read_u32(payload, at + 12);
-    if let Check::Refused(refusal) = check_framed(payload, at, size, 20, bytes) {
+    if let Check::Refused(refusal) = check_framed(payload, at, size, HEADERS, bytes) {
         return Counted::Refused(refusal);
     }
-    let start = at + 20;
+    let start = at + PAIRS_START;
     let count = wire::read_u32(payload, at + 16);
     match check_pairs(payload, count, start, start + bytes as usize) {
         Counted::Refused(refusal) => Counted::Refused(refusal),

@@ -13,6 +13,15 @@ use layout::Check;
 use layout::MaybeCompression;
 use layout::Refusal;
 use layout::SourceCompression;
+use layout::SourceInfoSectionType;
+
+// Where the stored bytes start in their section.
+pub const CONTENTS_START: usize = SourceInfoSectionType::SECTION_HEADER_SIZE
+    + SourceInfoSectionType::CONTENTS_HEADER_SIZE;
+
+const HEADERS: u32 = CONTENTS_START as u32;
+
+pub const CONTENT_HEADER: u32 = SourceInfoSectionType::CONTENT_ENTRY_HEADER_SIZE as u32;
 
 // What a contents section at a place stores, by its compression. A packed stream is not looked into.
 fn check_stored(payload: &[u8], compression: SourceCompression, at: usize, bytes: u32) -> Counted
@@ -26,9 +35,15 @@ fn check_stored(payload: &[u8], compression: SourceCompression, at: usize, bytes
     if wire::read_u32(payload, at + 20) != bytes {
         return Counted::Refused(Refusal::Unequal);
     }
-    let start = at + 28;
+    let start = at + CONTENTS_START;
     let count = wire::read_u32(payload, at + 24);
-    match check_entries(payload, 12, count, start, start + bytes as usize) {
+    match check_entries(
+        payload,
+        CONTENT_HEADER,
+        count,
+        start,
+        start + bytes as usize,
+    ) {
         Counted::Refused(refusal) => Counted::Refused(refusal),
         Counted::Rows(entries) => Counted::Rows(1 + entries),
     }
@@ -40,7 +55,7 @@ pub fn parse_contents(payload: &[u8], at: usize, size: usize) -> Counted
     requires { ⌜ length (now payload) ≤ limit ⌝ }
     ensures { λ r. ⌜ r ≡ counted (contents (now (payload .entry)) at size) ⌝ }
 {
-    if size < 28 {
+    if size < CONTENTS_START {
         return Counted::Refused(Refusal::Short);
     }
     if wire::read_u16(payload, at + 12) != 0 {
@@ -51,7 +66,7 @@ pub fn parse_contents(payload: &[u8], at: usize, size: usize) -> Counted
         return Counted::Refused(Refusal::Compression);
     };
     let bytes = wire::read_u32(payload, at + 16);
-    match check_framed(payload, at, size, 28, bytes) {
+    match check_framed(payload, at, size, HEADERS, bytes) {
         Check::Refused(refusal) => Counted::Refused(refusal),
         Check::Passed => check_stored(payload, compression, at, bytes),
     }

@@ -8,6 +8,7 @@ ghost use Rattle.read.specs.Outcome.{placeOf};
 use crate::outcome::MaybePlace;
 use layout::Check;
 use layout::Refusal;
+use layout::SourceInfoSectionType;
 
 // The place after the section at a place, by its size.
 pub fn check_frame(payload: &[u8], at: usize) -> MaybePlace
@@ -19,7 +20,7 @@ pub fn check_frame(payload: &[u8], at: usize) -> MaybePlace
         return MaybePlace::Refused(Refusal::Frame);
     }
     let size = wire::read_u32(payload, at) as usize;
-    if size < 8 {
+    if size < SourceInfoSectionType::SECTION_HEADER_SIZE {
         return MaybePlace::Refused(Refusal::Frame);
     }
     if size % 4 != 0 {

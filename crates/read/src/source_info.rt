@@ -12,6 +12,7 @@ use crate::framing::check_frame;
 use crate::names::parse_names;
 use crate::outcome::Counted;
 use crate::outcome::MaybePlace;
+use layout::PAYLOAD_LIMIT;
 use layout::Refusal;
 use layout::SourceInfoSectionType;
 
@@ -35,7 +36,7 @@ fn parse_sections(payload: &[u8], count: u16) -> Counted
     requires { ⌜ length (now payload) ≤ limit ⌝ }
     ensures { λ r. ⌜ r ≡ counted (sections count (now (payload .entry)) 8) ⌝ }
 {
-    let mut at: usize = 8;
+    let mut at = SourceInfoSectionType::MAIN_HEADER_SIZE;
     let mut rows: u32 = 0;
     let mut done: u16 = 0;
     while done < count {
@@ -66,10 +67,10 @@ fn parse_sections(payload: &[u8], count: u16) -> Counted
 pub fn parse_srci(payload: &[u8]) -> Counted
     ensures { λ r. ⌜ r ≡ counted (parse (now (payload .entry))) ⌝ }
 {
-    if 26_214_400 < payload.len() {
+    if PAYLOAD_LIMIT < payload.len() {
         return Counted::Refused(Refusal::Oversize);
     }
-    if payload.len() < 8 {
+    if payload.len() < SourceInfoSectionType::MAIN_HEADER_SIZE {
         return Counted::Refused(Refusal::Ragged);
     }
     if payload.len() % 4 != 0 {
