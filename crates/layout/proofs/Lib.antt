@@ -1,6 +1,7 @@
 pub mod Checked
 pub mod Encoding
 pub mod Lists
+pub mod PlainText
 pub mod Promises
 pub mod Rows
 pub mod TextCheck

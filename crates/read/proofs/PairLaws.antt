@@ -8,12 +8,13 @@ use mathlib.Core.Path.{_≡_, refl, sym, ap, _∙_}
 use native.Mathlib.Omega.{arith}
 use borrow.Author.Tests.{lt-ltb, le-ltb, eq-eqb, ne-eqb, ltb-true, ltb-false, eqb-true}
 use lib.Dec.{ltb, eqb}
-use lib.ListN.{length, take, drop, length-take, length-drop}
-use lib.Seq.{getD-take}
+use lib.ListN.{length, getD, take, drop, length-take, length-drop}
+use lib.Seq.{getD-take, getD-drop}
 use Rattle.wire.specs.Length.{wireSize}
 use Rattle.wire.specs.Nul.{untilNul, hasNul}
-use Rattle.wire.proofs.NulLaws.{until-at, until-before, until-prefix}
+use Rattle.wire.proofs.NulLaws.{until-at, until-before, until-prefix, until-nul, until-run}
 use Rattle.utf8.specs.Rfc3629.{wellFormed}
+use Rattle.utf8.proofs.Laws.{ascii-well-formed}
 use Rattle.layout.specs.Checked.{Checked, fault, good, check, then}
 use Rattle.layout.specs.Rows.{row}
 use Rattle.layout.specs.Texts.{part}
@@ -61,6 +62,29 @@ module _ (p : List ℕ) (at end : ℕ) where
     pub text-well-formed : wellFormed (part p at (untilNul (run p at end))) ≡ true → pairText p at end ≡ good (untilNul (run p at end))
     unfolding pairText check
     text-well-formed e = rw (lt-ltb (untilNul (run p at end)) (length (run p at end)) h, e)
+
+  -- bytes of ASCII that are no NUL, from the place up to `stop`, and a NUL there: a text
+  pub text-plain :
+      (stop : ℕ) →
+      at ≤ stop →
+      stop < end →
+      end ≤ length p →
+      ((k : ℕ) → k < stop → at ≤ k → (0 < getD p k 0) × (getD p k 0 < 0x80)) →
+      getD p stop 0 ≡ 0 →
+      pairText p at end ≡ good (stop - at)
+  text-plain stop h l m plain e =
+      let n : ℕ = stop - at in
+      let here : at + n ≡ stop = omega arith in
+      let byte : (k : ℕ) → k < n → (0 < getD p (at + k) 0) × (getD p (at + k) 0 < 0x80) = λ k i. plain (at + k) (omega arith) (omega arith) in
+      let closes : untilNul (drop (at + n) p) ≡ 0 = ap (λ (k : ℕ). untilNul (drop k p)) here ∙ until-nul p stop e in
+      let whole : untilNul (drop at p) ≡ n = omega (arith, until-run p at n (omega arith) (λ k i. byte k i .0)) in
+      let found : untilNul (run p at end) ≡ n = until-prefix (drop at p) (end - at) (omega (arith, whole)) ∙ whole in
+      let ascii : (k : ℕ) → k < length (part p at n) → getD (part p at n) k 0 < 0x80 =
+      λ k i.
+      let inside : k < n = omega (arith, length-take n (drop at p)) in
+      rw (getD-take n (drop at p) k 0 inside, getD-drop at p k 0) (byte k inside .1) in
+      text-well-formed (omega (arith, length-run p at end m)) (ap (λ (k : ℕ). wellFormed (part p at k)) found ∙ ascii-well-formed (part p at n) ascii) ∙
+      ap {B = Checked ℕ} (λ (k : ℕ). good k) found
 
   -- a good text ends before `end`, at the first NUL of all the bytes from its place on
   pub pairText-good : (n : ℕ) → pairText p at end ≡ good n → (at + wireSize n ≤ end) × (n ≡ untilNul (drop at p))

@@ -1,7 +1,7 @@
 // Argument sections: names and values, each ended by a NUL.
 ghost use mathlib.Core.Path.{_≡_};
-ghost use Prim.Native.Nat.{_+_, _≤_};
-ghost use lib.ListN.{length};
+ghost use Prim.Native.Nat.{ℕ, _+_, _≤_, _<_};
+ghost use lib.ListN.{length, getD};
 ghost use Rattle.layout.specs.Encoding.{limit};
 ghost use Rattle.read.specs.Parse.{pairText, pair, pairs, arguments};
 ghost use Rattle.read.specs.Outcome.{maybeText, placeOf, afterPair, counted};
@@ -21,8 +21,33 @@ pub const PAIRS_START: usize = SourceInfoSectionType::SECTION_HEADER_SIZE
 
 const HEADERS: u32 = PAIRS_START as u32;
 
-// The text from a place on, which ends at the first NUL before `end`.
-fn check_pair_text(payload: &[u8], at: usize, end: usize) -> MaybeText
+// How many bytes are looked at one by one before a text counts as long.
+const NEAR: usize = 64;
+
+// The end of the run, from a place on, of bytes that are ASCII and no NUL; in a long run a place inside.
+fn plain_end(payload: &[u8], at: usize, end: usize) -> usize
+    requires { ⌜ (at ≤ end) × (end ≤ length (now payload)) ⌝ }
+    ensures { λ r. ⌜ (at ≤ r) × (r ≤ end) ⌝ }
+    ensures { λ r. ⌜ ((k : ℕ) → k < r → at ≤ k → (0 < getD (now (payload .entry)) k 0) × (getD (now (payload .entry)) k 0 < 0x80)) ⌝ }
+{
+    let near = if end - at < NEAR { end } else { at + NEAR };
+    let mut i = at;
+    while i < near {
+        let byte = payload[i];
+        if byte == 0 {
+            return i;
+        }
+        if byte >= 0x80 {
+            return i;
+        }
+        i += 1;
+    }
+    i
+}
+
+// The text from a place on, which ends at the first NUL before `end`, whatever its length and characters.
+// It is gone through twice, in blocks.
+fn check_any_text(payload: &[u8], at: usize, end: usize) -> MaybeText
     requires { ⌜ (at ≤ end) × (end ≤ length (now payload)) ⌝ }
     requires { ⌜ length (now payload) ≤ limit ⌝ }
     ensures { λ r. ⌜ r ≡ maybeText (pairText (now (payload .entry)) at end) ⌝ }
@@ -36,6 +61,22 @@ fn check_pair_text(payload: &[u8], at: usize, end: usize) -> MaybeText
         Utf8::WellFormed => MaybeText::Text(TextLength(count as u32)),
         Utf8::IllFormed(_) => MaybeText::Refused(Refusal::NotUtf8),
     }
+}
+
+// The same. Most texts of arguments are short and ASCII, or empty: the NUL of such a one is found, and its
+// bytes are seen to be well formed, in one go and without a call.
+fn check_pair_text(payload: &[u8], at: usize, end: usize) -> MaybeText
+    requires { ⌜ (at ≤ end) × (end ≤ length (now payload)) ⌝ }
+    requires { ⌜ length (now payload) ≤ limit ⌝ }
+    ensures { λ r. ⌜ r ≡ maybeText (pairText (now (payload .entry)) at end) ⌝ }
+{
+    let stop = plain_end(payload, at, end);
+    if stop < end {
+        if payload[stop] == 0 {
+            return MaybeText::Text(TextLength((stop - at) as u32));
+        }
+    }
+    check_any_text(payload, at, end)
 }
 
 // The place after the pair at a place, both of whose texts end before `end`.

@@ -2,8 +2,9 @@
 // again; texts are not decoded, and only the NULs of pairs are looked for once more.
 ghost use mathlib.Core.Path.{_≡_};
 ghost use mathlib.Core.Bool.{true};
-ghost use Prim.Native.Nat.{_+_, _-_, _≤_};
-ghost use lib.ListN.{length};
+ghost use Prim.Native.Nat.{_+_, _-_, _≤_, _<_};
+ghost use lib.ListN.{length, drop};
+ghost use Rattle.wire.specs.Nul.{untilNul};
 ghost use Rattle.wire.specs.Number.{u16At, u32At};
 ghost use Rattle.layout.specs.Checked.{isGood};
 ghost use Rattle.layout.specs.Encoding.{limit};
@@ -11,6 +12,11 @@ ghost use Rattle.layout.specs.Rows.{row};
 ghost use Rattle.read.specs.Outcome.{afterPair};
 ghost use Rattle.read.specs.Parse.{contents, body, parse};
 ghost use Rattle.read.specs.Walk.{entryRow, walkEntries, entriesEnd, pairRow, walkPairs, pairsEnd, walkContents, walkSection, walk, storeRows};
+use crate::arguments::PAIRS_START;
+use crate::contents::CONTENT_HEADER;
+use crate::contents::CONTENTS_START;
+use crate::names::NAME_HEADER;
+use crate::names::NAMES_START;
 use layout::Row;
 use layout::SourceInfoSectionType;
 use wire::Terminated;
@@ -50,11 +56,11 @@ fn entry_row(payload: &[u8], header: u32, at: usize) -> Row
     ensures { λ r. ⌜ r ≡ entryRow (now (payload .entry)) header at ⌝ }
 {
     let length = entry_text(payload, at);
-    if header == 16 {
+    if header == NAME_HEADER {
         return Row {
             tag: 6,
             side: 0,
-            a: (at + 16) as u32,
+            a: (at + SourceInfoSectionType::NAME_ENTRY_HEADER_SIZE) as u32,
             b: length,
             c: wire::read_u32(payload, at + 12),
             d: 0,
@@ -64,7 +70,7 @@ fn entry_row(payload: &[u8], header: u32, at: usize) -> Row
     Row {
         tag: 5,
         side: 0,
-        a: (at + 12) as u32,
+        a: (at + SourceInfoSectionType::CONTENT_ENTRY_HEADER_SIZE) as u32,
         b: length,
         c: 0,
         d: 0,
@@ -95,13 +101,25 @@ fn fill_entries(
     }
 }
 
+// How many bytes stand before the first NUL from a place on. An argument often has an empty text, and the
+// first byte tells so without a call.
+fn until_nul(payload: &[u8], at: usize) -> usize
+    requires { ⌜ at < length (now payload) ⌝ }
+    ensures { λ r. ⌜ r ≡ untilNul (drop at (now (payload .entry))) ⌝ }
+{
+    if payload[at] == 0 {
+        return 0;
+    }
+    wire::find_nul(&payload[at..])
+}
+
 // The row of the pair at a place.
 fn pair_row(payload: &[u8], at: usize) -> Row
     requires { ⌜ afterPair (pairRow (now payload) at) ≤ length (now payload) ⌝ }
     requires { ⌜ length (now payload) ≤ limit ⌝ }
     ensures { λ r. ⌜ r ≡ pairRow (now (payload .entry)) at ⌝ }
 {
-    let name = TextLength(wire::find_nul(&payload[at..]) as u32);
+    let name = TextLength(until_nul(payload, at) as u32);
     let start = at + name.wire_size().0;
     Row {
         tag: 7,
@@ -109,7 +127,7 @@ fn pair_row(payload: &[u8], at: usize) -> Row
         a: at as u32,
         b: name.0,
         c: start as u32,
-        d: wire::find_nul(&payload[start..]) as u32,
+        d: until_nul(payload, start) as u32,
         e: 0,
     }
 }
@@ -153,14 +171,21 @@ fn fill_contents(payload: &[u8], at: usize, rows: &mut [u32], index: usize) -> u
             e: 0,
         };
         head.store(rows, index);
-        fill_entries(payload, 12, count, at + 28, rows, index + 1);
+        fill_entries(
+            payload,
+            CONTENT_HEADER,
+            count,
+            at + CONTENTS_START,
+            rows,
+            index + 1,
+        );
         return index + 1 + count as usize;
     }
     let head = Row {
         tag: 1,
         side: 0,
         a: field,
-        b: (at + 28) as u32,
+        b: (at + CONTENTS_START) as u32,
         c: wire::read_u32(payload, at + 16),
         d: count,
         e: wire::read_u32(payload, at + 20),
@@ -180,7 +205,7 @@ fn unknown_row(payload: &[u8], kind: u16, at: usize) -> Row
         tag: 4,
         side: 0,
         a: kind as u32,
-        b: (at + 8) as u32,
+        b: (at + SourceInfoSectionType::SECTION_HEADER_SIZE) as u32,
         c: wire::read_u32(payload, at) - 8,
         d: 0,
         e: 0,
@@ -202,13 +227,20 @@ fn fill_section(payload: &[u8], at: usize, rows: &mut [u32], index: usize) -> us
         SourceInfoSectionType::SourceNames => {
             bare_row(2).store(rows, index);
             let count = wire::read_u32(payload, at + 12);
-            fill_entries(payload, 16, count, at + 18, rows, index + 1);
+            fill_entries(
+                payload,
+                NAME_HEADER,
+                count,
+                at + NAMES_START,
+                rows,
+                index + 1,
+            );
             index + 1 + count as usize
         }
         SourceInfoSectionType::Arguments => {
             bare_row(3).store(rows, index);
             let count = wire::read_u32(payload, at + 16);
-            fill_pairs(payload, count, at + 20, rows, index + 1);
+            fill_pairs(payload, count, at + PAIRS_START, rows, index + 1);
             index + 1 + count as usize
         }
         SourceInfoSectionType::Unknown(kind) => {
@@ -224,7 +256,7 @@ pub fn fill_srci(payload: &[u8], rows: &mut [u32])
     ensures { λ _. ⌜ now (rows .exit) ≡ storeRows (now (rows .entry)) 0 (walk (now (payload .entry))) ⌝ }
 {
     let count = wire::read_u16(payload, 6);
-    let mut at: usize = 8;
+    let mut at = SourceInfoSectionType::MAIN_HEADER_SIZE;
     let mut index: usize = 0;
     let mut done: u16 = 0;
     while done < count {

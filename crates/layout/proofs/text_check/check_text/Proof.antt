@@ -1,53 +1,30 @@
--- `check_text` meets its contract: the answer of `validate` decides the first test, and the place of the first NUL the second.
-use mathlib.Core.Path.{ap, sym, _∙_}
-use native.Mathlib.Omega.{arith}
+-- `check_text` meets its contract: a plain text passes the check.
+use mathlib.Core.Path.{ap, sym}
 use borrow.Author.Needs.{needs}
-use denote.Ref.{now}
-use Rattle.utf8.proofs.Laws.{well-formed, not-well-formed}
-use Rattle.wire.proofs.NulLaws.{until-length}
 use Rattle.layout.specs.TextCheck.{verdict}
-use Rattle.layout.proofs.TextCheck.{check-not-utf8, check-inner-nul, check-passed}
+use Rattle.layout.proofs.PlainText.{plain-passes}
 use Rattle.layout.proofs.text_check.check_text.Statement.{statement}
 use Rattle.layout.proofs.text_check.check_text.Tie as tie
 
-validate-requires : tie.Need-validate-requires
-validate-requires c κs = search needs
-
-enum-told : tie.Need-enum-told
-enum-told c = search needs
-
-enum-told-2 : tie.Need-enum-told-2
-enum-told-2 c = search needs
-
-find-nul-requires : tie.Need-find-nul-requires
-find-nul-requires c κs = search needs
+is-plain-requires : tie.Need-is-plain-requires
+is-plain-requires c κs = search needs
 
 returns : tie.Need-returns
 returns c =
-    let text = now (c .before .before .before .before .args .text) in
-    let ill = not-well-formed text _ (sym (c .before .before .validate .ensures) ∙ c .enum-told .given .1) in
-    sym (ap verdict (check-not-utf8 text ill))
+    let plain = c .before .is-plain in
+    sym (ap verdict (plain-passes _ (λ k h. plain .ensures k h (c .if2 .taken))))
+
+check-any-text-requires : tie.Need-check-any-text-requires
+check-any-text-requires c κs = search needs
 
 returns-2 : tie.Need-returns-2
-returns-2 c =
-    let text = now (c .before .before .before .before .before .before .args .text) in
-    let well = well-formed text (sym (c .before .before .before .before .validate .ensures) ∙ c .before .before .enum-told2 .given .1) in
-    sym (ap verdict (check-passed text well (omega arith)))
-
-returns-3 : tie.Need-returns-3
-returns-3 c =
-    let text = now (c .before .before .before .before .before .before .args .text) in
-    let well = well-formed text (sym (c .before .before .before .before .validate .ensures) ∙ c .before .before .enum-told2 .given .1) in
-    sym (ap verdict (check-inner-nul text well (omega (arith, until-length text))))
+returns-2 c = search needs
 
 pub check-text-spec : {M : Type 1} → statement M
 check-text-spec =
     tie.close
     (tie.spec
-    validate-requires
-    enum-told
-    enum-told-2
-    find-nul-requires
+    is-plain-requires
     returns
-    returns-2
-    returns-3)
+    check-any-text-requires
+    returns-2)

@@ -1,125 +1,45 @@
--- `check_pair_text` meets its contract: the place of the first NUL of the run decides the first test, and the answer of
--- `validate` the second.
-use Prim.Native.Nat.{ℕ, _+_, _-_, _≤_, _<_}
-use mathlib.Core.Path.{_≡_, ap, sym, _∙_}
+-- `check_pair_text` meets its contract: a NUL where the plain bytes end closes a text of plain bytes, and of any other
+-- `check_any_text` answers the same.
+use mathlib.Core.Path.{ap, sym}
 use native.Mathlib.Omega.{arith}
 use borrow.Author.Needs.{needs}
-use denote.Ref.{now}
-use mathlib.Core.List.{List}
-use lib.ListN.{length}
-use Rattle.wire.specs.Nul.{untilNul}
-use Rattle.wire.proofs.NulLaws.{until-length}
-use Rattle.utf8.specs.Rfc3629.{utf8Of}
-use Rattle.utf8.proofs.Laws.{well-formed, not-well-formed}
-use Rattle.layout.specs.Texts.{part}
 use Rattle.read.specs.Outcome.{maybeText}
-use Rattle.read.specs.declared.outcome.MaybeText.the-variants.{Text}
-use Rattle.read.proofs.PairLaws.{run, length-run, text-open, text-ill-formed, text-well-formed}
+use Rattle.read.proofs.PairLaws.{text-plain}
 use Rattle.read.proofs.arguments.check_pair_text.Statement.{statement}
 use Rattle.read.proofs.arguments.check_pair_text.Tie as tie
 
-sub-find-nul : tie.Need-sub-find-nul
-sub-find-nul c = search needs
+plain-end-requires : tie.Need-plain-end-requires
+plain-end-requires c κs = search needs
 
-part-find-nul-start : tie.Need-part-find-nul-start
-part-find-nul-start c = search needs
+shared-slice-read-if2 : tie.Need-shared-slice-read-if2
+shared-slice-read-if2 c = omega arith
 
-part-find-nul-end : tie.Need-part-find-nul-end
-part-find-nul-end c = search needs
+sub-t9 : tie.Need-sub-t9
+sub-t9 c = omega arith
 
-find-nul-requires : tie.Need-find-nul-requires
-find-nul-requires c κs = search needs
-
-sub-if1 : tie.Need-sub-if1
-sub-if1 c = search needs
-
--- the run that the text is looked for in
-abbrev rest : tie.Start → List ℕ
-rest s = run (now (s .args .payload)) (s .args .at) (s .args .end)
-
-length-rest : (s : tie.Start) → length (rest s) ≡ s .args .end - s .args .at
-length-rest s = length-run (now (s .args .payload)) (s .args .at) (s .args .end) (omega arith)
-
--- the NUL lies before `end`, or there is none
-within : (c : tie.After-find-nul) → (let a = c .before .before .before .args in a .at + c .find-nul .result ≤ a .end)
-within c =
-    let s = c .before .before .before in
-    omega (arith, c .find-nul .ensures, until-length (rest s), length-rest s)
+cast-t10 : tie.Need-cast-t10
+cast-t10 c = omega arith
 
 returns : tie.Need-returns
 returns c =
-    let s = c .before .before .before .before in
-    sym (ap maybeText (text-open _ _ _ (omega (arith, c .before .find-nul .ensures, length-rest s))))
+    let stop = c .before .before .before .plain-end in
+    let a = c .before .before .before .before .before .args in
+    sym (ap maybeText (text-plain (a .payload .now) (a .at) (a .end) (stop .result) (stop .ensures .0 .0) (omega arith) (omega arith) (stop .ensures .1) (omega arith)))
 
-add-stop : tie.Need-add-stop
-add-stop c = omega (arith, within (c .before))
-
-sub-validate : tie.Need-sub-validate
-sub-validate c = search needs
-
-part-validate-start : tie.Need-part-validate-start
-part-validate-start c = search needs
-
-part-validate-end : tie.Need-part-validate-end
-part-validate-end c = omega (arith, within (c .before))
-
-validate-requires : tie.Need-validate-requires
-validate-requires c κs = search needs
-
-enum-told : tie.Need-enum-told
-enum-told c = search needs
-
-cast-t17 : tie.Need-cast-t17
-cast-t17 c = omega (arith, within (c .before .before .before .before .before))
-
-enum-told-2 : tie.Need-enum-told-2
-enum-told-2 c = search needs
-
--- there is a NUL before `end`
-closed : (c : tie.Else1) → (let s = c .before .before .before .before in untilNul (rest s) < length (rest s))
-closed c = omega (arith, within (c .before), c .before .find-nul .ensures, length-rest (c .before .before .before .before))
-
--- `validate` was shown the bytes before it
-shown :
-    (c : tie.After-validate) →
-    (let s = c .before .before .before .before .before .before in
-    c .validate .result ≡ utf8Of (part (now (s .args .payload)) (s .args .at) (untilNul (rest s))))
-shown c =
-    let s = c .before .before .before .before .before .before in
-    let f = c .before .before .before .find-nul in
-    let e : s .args .at + f .result - s .args .at ≡ untilNul (rest s) = omega (arith, f .ensures) in
-    c .validate .ensures ∙ ap (λ (n : ℕ). utf8Of (part (now (s .args .payload)) (s .args .at) n)) e
+check-any-text-requires : tie.Need-check-any-text-requires
+check-any-text-requires c κs = search needs
 
 returns-2 : tie.Need-returns-2
-returns-2 c =
-    let v = c .before .before in
-    let formed = well-formed _ (sym (shown v) ∙ c .enum-told .given .1) in
-    ap (λ (n : ℕ). Text (record { 0 = n })) (v .before .before .before .find-nul .ensures) ∙
-    sym (ap maybeText (text-well-formed _ _ _ (closed (v .before .before)) formed))
-
-returns-3 : tie.Need-returns-3
-returns-3 c =
-    let v = c .before .before in
-    let ill = not-well-formed _ _ (sym (shown v) ∙ c .enum-told2 .given .1) in
-    sym (ap maybeText (text-ill-formed _ _ _ (closed (v .before .before)) ill))
+returns-2 c = search needs
 
 pub check-pair-text-spec : {M : Type 1} → statement M
 check-pair-text-spec =
     tie.close
     (tie.spec
-    sub-find-nul
-    part-find-nul-start
-    part-find-nul-end
-    find-nul-requires
-    sub-if1
+    plain-end-requires
+    shared-slice-read-if2
+    sub-t9
+    cast-t10
     returns
-    add-stop
-    sub-validate
-    part-validate-start
-    part-validate-end
-    validate-requires
-    enum-told
-    cast-t17
-    enum-told-2
-    returns-2
-    returns-3)
+    check-any-text-requires
+    returns-2)
