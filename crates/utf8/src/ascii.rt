@@ -1,40 +1,32 @@
 // Runs of ASCII, which need no decoding: a byte below 0x80 is a character by itself.
 //
-// A long run is passed over in blocks. The largest byte of a block says whether all of it is ASCII, and
-// the loop that finds it does not branch on the text, so that it can be compiled to vector code. A block
-// is tried only after as many single bytes of ASCII, so that blocks which turn out to hold another
-// character share no byte.
+// A run is passed over in blocks, and what is left of it byte by byte. The loop over a block does not
+// branch on the text, so that it is compiled to a test of all its bytes at once, which costs no more
+// than that of one byte. The caller gives the size of the blocks as a constant: these functions are
+// compiled into each caller, for its size.
 ghost use mathlib.Core.Path.{_≡_};
+ghost use mathlib.Core.Bool.{false};
 ghost use Prim.Native.Nat.{ℕ, _+_, _≤_, _<_};
 ghost use lib.ListN.{length, getD, drop};
 ghost use Rattle.utf8.specs.Rfc3629.{octetsFrom};
 
-const BLOCK: usize = 32;
+// The end of the run of ASCII from place at on, by blocks of a size.
+pub fn run_end(text: &[u8], at: usize, size: usize) -> usize
+    requires { ⌜ (at ≤ length (now text)) × (0 < size) ⌝ }
+    ensures { λ r. ⌜ (at ≤ r) × (r ≤ length (now (text .entry))) ⌝ }
+    ensures { λ r. ⌜ octetsFrom 0 r (drop r (now (text .entry))) ≡ octetsFrom 0 at (drop at (now (text .entry))) ⌝ }
+{
+    passed(text, blocks_end(text, at, size))
+}
 
-// The end of the run of ASCII from place at on.
-pub fn run_end(text: &[u8], at: usize) -> usize
+// The place of the first byte from at on that is no ASCII, or the end of the text.
+fn passed(text: &[u8], at: usize) -> usize
     requires { ⌜ at ≤ length (now text) ⌝ }
     ensures { λ r. ⌜ (at ≤ r) × (r ≤ length (now (text .entry))) ⌝ }
     ensures { λ r. ⌜ octetsFrom 0 r (drop r (now (text .entry))) ≡ octetsFrom 0 at (drop at (now (text .entry))) ⌝ }
 {
-    if text.len() - at < BLOCK {
-        return passed(text, at, text.len());
-    }
-    let near = passed(text, at, at + BLOCK);
-    if near < at + BLOCK {
-        return near;
-    }
-    passed(text, blocks_end(text, near), text.len())
-}
-
-// The place of the first byte from at on that is no ASCII, or end where all below end are.
-fn passed(text: &[u8], at: usize, end: usize) -> usize
-    requires { ⌜ (at ≤ end) × (end ≤ length (now text)) ⌝ }
-    ensures { λ r. ⌜ (at ≤ r) × (r ≤ end) ⌝ }
-    ensures { λ r. ⌜ octetsFrom 0 r (drop r (now (text .entry))) ≡ octetsFrom 0 at (drop at (now (text .entry))) ⌝ }
-{
     let mut i = at;
-    while i < end {
+    while i < text.len() {
         if text[i] >= 0x80 {
             return i;
         }
@@ -44,32 +36,33 @@ fn passed(text: &[u8], at: usize, end: usize) -> usize
 }
 
 // The end of the whole blocks of ASCII from place at on.
-fn blocks_end(text: &[u8], at: usize) -> usize
-    requires { ⌜ at ≤ length (now text) ⌝ }
+fn blocks_end(text: &[u8], at: usize, size: usize) -> usize
+    requires { ⌜ (at ≤ length (now text)) × (0 < size) ⌝ }
     ensures { λ r. ⌜ (at ≤ r) × (r ≤ length (now (text .entry))) ⌝ }
     ensures { λ r. ⌜ octetsFrom 0 r (drop r (now (text .entry))) ≡ octetsFrom 0 at (drop at (now (text .entry))) ⌝ }
 {
     let mut i = at;
-    while text.len() - i >= BLOCK {
-        if largest(text, i) >= 0x80 {
+    while text.len() - i >= size {
+        if has_other(text, i, size) {
             return i;
         }
-        i += BLOCK;
+        i += size;
     }
     i
 }
 
-// The largest byte of the block, of 32 bytes, at place at.
-fn largest(text: &[u8], at: usize) -> u8
-    requires { ⌜ at + 32 ≤ length (now text) ⌝ }
-    ensures { λ r. ⌜ ((k : ℕ) → k < 32 → getD (now (text .entry)) (at + k) 0 ≤ r) ⌝ }
+// Whether a byte of the block at place at is no ASCII, or is 0: a text has seldom a NUL, and the other
+// bytes of ASCII are told by one comparison of signed bytes.
+fn has_other(text: &[u8], at: usize, size: usize) -> bool
+    requires { ⌜ at + size ≤ length (now text) ⌝ }
+    ensures { λ r. ⌜ (r ≡ false → (k : ℕ) → k < size → getD (now (text .entry)) (at + k) 0 < 0x80) ⌝ }
 {
-    let mut most: u8 = 0;
-    for k in 0..BLOCK {
+    let mut found = false;
+    for k in 0..size {
         let byte = text[at + k];
-        if byte > most {
-            most = byte;
+        if byte == 0 || byte >= 0x80 {
+            found = true;
         }
     }
-    most
+    found
 }

@@ -19,16 +19,24 @@ pub enum Utf8 {
     IllFormed(usize),
 }
 
-// The table of classes is lent from here, so that it is made once for a text and not for each character,
-// and not at all for a text of ASCII alone.
+// Most texts are short, and ASCII alone: the first run goes by small blocks.
 pub fn validate(text: &[u8]) -> Utf8
     ensures { λ r. ⌜ r ≡ utf8Of (now (text .entry)) ⌝ }
 {
-    let at = ascii::run_end(text, 0);
+    let at = ascii::run_end(text, 0, 16);
     if at == text.len() {
         return Utf8::WellFormed;
     }
-    read_octets(text, at, &classes::CLASSES)
+    read_with_table(text, at)
+}
+
+// Reads on from a place, and lends the table of classes. A table is made at the start of the function
+// that names it: here, once for a text and not for each character, and not for a text of ASCII alone.
+fn read_with_table(text: &[u8], from: usize) -> Utf8
+    requires { ⌜ from ≤ length (now text) ⌝ }
+    ensures { λ r. ⌜ r ≡ octetsFrom 0 from (drop from (now (text .entry))) ⌝ }
+{
+    read_octets(text, from, &classes::CLASSES)
 }
 
 // Reads on from a place: passes over a run of ASCII at a time, and over any other character by the class
@@ -41,7 +49,7 @@ fn read_octets(text: &[u8], from: usize, table: &[u8; 256]) -> Utf8
     let mut at = from;
     while at < text.len() {
         if text[at] < 0x80 {
-            at = ascii::run_end(text, at + 1);
+            at = ascii::run_end(text, at + 1, 32);
         } else {
             let count = character::length(text, at, table);
             if count == 0 {

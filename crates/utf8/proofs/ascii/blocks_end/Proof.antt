@@ -10,10 +10,10 @@ use Rattle.utf8.proofs.ascii.blocks_end.Statement.{statement}
 use Rattle.utf8.proofs.ascii.blocks_end.Tie as tie
 
 abbrev Inv-loop : tie.InvT-loop
-Inv-loop text at i₀ i = (at ≤ i) × (i ≤ length text) × (octetsFrom 0 i (drop i text) ≡ octetsFrom 0 at (drop at text))
+Inv-loop text at size i₀ i = (at ≤ i) × (i ≤ length text) × (octetsFrom 0 i (drop i text) ≡ octetsFrom 0 at (drop at text))
 
 abbrev μ-loop : tie.MeasureT-loop
-μ-loop text at i₀ i = length text - i
+μ-loop text at size i₀ i = length text - i
 
 loop-holds : tie.Need-loop-holds Inv-loop μ-loop
 loop-holds c = (omega arith, omega arith, refl)
@@ -21,8 +21,8 @@ loop-holds c = (omega arith, omega arith, refl)
 sub-loop : tie.Need-sub-loop Inv-loop μ-loop
 sub-loop c = omega arith
 
-largest-requires : tie.Need-largest-requires Inv-loop μ-loop
-largest-requires c κs = omega arith
+has-other-requires : tie.Need-has-other-requires Inv-loop μ-loop
+has-other-requires c κs = omega arith
 
 returns : tie.Need-returns Inv-loop μ-loop
 returns c = (omega arith, c .before .before .before .loop .inv .2)
@@ -37,7 +37,7 @@ loop-again : tie.Need-loop-again Inv-loop μ-loop
 loop-again c = (
   omega arith,
   omega arith,
-  ascii-run _ _ 32 (omega arith) (λ k h. let below : _ = c .before .largest .ensures k h in omega arith) ∙
+  ascii-run _ _ _ (omega arith) (c .before .has-other .ensures (c .if1 .left)) ∙
       c .before .before .before .loop .inv .2,
 )
 
@@ -52,7 +52,7 @@ blocks-end-spec =
     μ-loop
     loop-holds
     sub-loop
-    largest-requires
+    has-other-requires
     returns
     add-i
     loop-less

@@ -3,17 +3,17 @@
 use Prim.Native.Nat.{_≤_, _-_}
 use mathlib.Core.Path.{_≡_, refl, _∙_}
 use native.Mathlib.Omega.{arith}
-use lib.ListN.{drop}
+use lib.ListN.{length, drop}
 use Rattle.utf8.specs.Rfc3629.{octetsFrom}
 use Rattle.utf8.proofs.Octets.{ascii}
 use Rattle.utf8.proofs.ascii.passed.Statement.{statement}
 use Rattle.utf8.proofs.ascii.passed.Tie as tie
 
 abbrev Inv-loop : tie.InvT-loop
-Inv-loop text at end i₀ i = (at ≤ i) × (i ≤ end) × (octetsFrom 0 i (drop i text) ≡ octetsFrom 0 at (drop at text))
+Inv-loop text at i₀ i = (at ≤ i) × (i ≤ length text) × (octetsFrom 0 i (drop i text) ≡ octetsFrom 0 at (drop at text))
 
 abbrev μ-loop : tie.MeasureT-loop
-μ-loop text at end i₀ i = end - i
+μ-loop text at i₀ i = length text - i
 
 loop-holds : tie.Need-loop-holds Inv-loop μ-loop
 loop-holds c = (omega arith, omega arith, refl)

@@ -1,7 +1,7 @@
 -- `wire::nul::blocks_end` meets its contract. The loop's invariant: no block that was passed has a NUL.
 -- Assumes nothing.
 use Prim.Native.Nat.{_+_, _≤_, _-_}
-use mathlib.Core.Path.{_≡_, refl, _∙_}
+use mathlib.Core.Path.{_≡_, _∙_}
 use native.Mathlib.Omega.{arith}
 use lib.ListN.{length, drop}
 use Rattle.wire.specs.Nul.{untilNul}
@@ -10,19 +10,19 @@ use Rattle.wire.proofs.nul.blocks_end.Statement.{statement}
 use Rattle.wire.proofs.nul.blocks_end.Tie as tie
 
 abbrev Inv-loop : tie.InvT-loop
-Inv-loop bytes at i₀ i = (i ≤ length bytes) × (i + untilNul (drop i bytes) ≡ at + untilNul (drop at bytes))
+Inv-loop bytes i₀ i = (i ≤ length bytes) × (i + untilNul (drop i bytes) ≡ untilNul bytes)
 
 abbrev μ-loop : tie.MeasureT-loop
-μ-loop bytes at i₀ i = length bytes - i
+μ-loop bytes i₀ i = length bytes - i
 
 loop-holds : tie.Need-loop-holds Inv-loop μ-loop
-loop-holds c = (omega arith, refl)
+loop-holds c = (omega arith, omega arith)
 
 sub-loop : tie.Need-sub-loop Inv-loop μ-loop
 sub-loop c = omega arith
 
-smallest-requires : tie.Need-smallest-requires Inv-loop μ-loop
-smallest-requires c κs = omega arith
+has-nul-requires : tie.Need-has-nul-requires Inv-loop μ-loop
+has-nul-requires c κs = omega arith
 
 returns : tie.Need-returns Inv-loop μ-loop
 returns c = (omega arith, c .before .before .before .loop .inv .1)
@@ -36,7 +36,7 @@ loop-less c = omega arith
 loop-again : tie.Need-loop-again Inv-loop μ-loop
 loop-again c = (
   omega arith,
-  until-run _ _ 32 (omega arith) (λ k h. let below : _ = c .before .smallest .ensures k h in omega arith) ∙
+  until-run _ _ 16 (omega arith) (c .before .has-nul .ensures (c .if1 .left)) ∙
       c .before .before .before .loop .inv .1,
 )
 
@@ -51,7 +51,7 @@ blocks-end-spec =
     μ-loop
     loop-holds
     sub-loop
-    smallest-requires
+    has-nul-requires
     returns
     add-i
     loop-less

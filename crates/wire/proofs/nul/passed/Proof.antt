@@ -3,17 +3,17 @@
 use Prim.Native.Nat.{_+_, _≤_, _-_}
 use mathlib.Core.Path.{_≡_, refl}
 use native.Mathlib.Omega.{arith}
-use lib.ListN.{drop}
+use lib.ListN.{length, drop}
 use Rattle.wire.specs.Nul.{untilNul}
-use Rattle.wire.proofs.NulLaws.{until-step, until-nul}
+use Rattle.wire.proofs.NulLaws.{until-step, until-nul, until-past}
 use Rattle.wire.proofs.nul.passed.Statement.{statement}
 use Rattle.wire.proofs.nul.passed.Tie as tie
 
 abbrev Inv-loop : tie.InvT-loop
-Inv-loop bytes at end i₀ i = (i ≤ end) × (i + untilNul (drop i bytes) ≡ at + untilNul (drop at bytes))
+Inv-loop bytes at i₀ i = (i ≤ length bytes) × (i + untilNul (drop i bytes) ≡ at + untilNul (drop at bytes))
 
 abbrev μ-loop : tie.MeasureT-loop
-μ-loop bytes at end i₀ i = end - i
+μ-loop bytes at i₀ i = length bytes - i
 
 loop-holds : tie.Need-loop-holds Inv-loop μ-loop
 loop-holds c = (omega arith, refl)
@@ -24,7 +24,7 @@ shared-slice-read-if1 c = omega arith
 returns : tie.Need-returns Inv-loop μ-loop
 returns c =
     let at = c .before .before .before in
-    (omega arith, (at .loop .inv .1, λ h. until-nul (at .before .args .bytes .now) (at .loop .i) (omega arith)))
+    omega (arith, until-nul (at .before .args .bytes .now) (at .loop .i) (omega arith))
 
 add-i : tie.Need-add-i Inv-loop μ-loop
 add-i c = omega arith
@@ -38,7 +38,7 @@ loop-again c =
     omega (arith, until-step (at .before .args .bytes .now) (at .loop .i) (omega arith) (λ e. omega arith))
 
 returns-2 : tie.Need-returns-2 Inv-loop μ-loop
-returns-2 c = (omega arith, (c .before .loop .inv .1, λ h. absurd (omega arith)))
+returns-2 c = omega (arith, until-past (c .before .before .args .bytes .now) (c .before .loop .i) (omega arith))
 
 pub passed-spec : {M : Type 1} → statement M
 passed-spec =
