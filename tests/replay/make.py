@@ -1,13 +1,15 @@
 #!/usr/bin/env python3
-"""Writes the calls and the expected answers of the program read_replay.
+"""Writes the calls and the expected answers of the program replay.
 
     tests/oracle/run.sh PATH_TO_SRCI_RS rows 300 1 > target/rows.tsv
-    tests/replay/make.py VECTORS tests/replay/samples.tsv target/rows.tsv
+    tests/replay/make.py read VECTORS read tests/replay/samples.tsv read target/rows.tsv
 
-VECTORS is the list of an independent model of document 01; it is not in this repository.
+The arguments are jobs, each with a list of its calls. VECTORS is the list of an independent model of
+document 01; it is not in this repository.
 
-A list has a call to a line: the payload in hex, how many numbers are lent, the number, the second number,
-and the numbers of the stored rows with commas; '-' is empty. A line that begins with '#' is passed over.
+A list has a call to a line, its fields parted by tabs; '-' is empty, bytes are hex, and lists have commas. A
+line that begins with '#' is passed over. Of reading: the payload, how many numbers are lent, the number,
+the second number, and the numbers of the stored rows.
 """
 import pathlib
 import sys
@@ -21,23 +23,30 @@ def listed(word):
     return [] if word == "-" else word.split(",")
 
 
-def main(lists):
+def read(payload, lent, number, second, rows):
+    payload = payload.replace("-", "")
+    stored = listed(rows)
+    assert int(lent) <= NUMBERS and len(payload) <= 2 * LONGEST
+    return [lent, payload], [number, second, str(NUMBERS - len(stored)), *stored]
+
+
+JOBS = {"read": read}
+
+
+def main(words):
     calls, answers = [], []
-    for path in lists:
+    for job, path in zip(words[::2], words[1::2], strict=True):
         for line in pathlib.Path(path).read_text().splitlines():
             if line.startswith("#"):
                 continue
-            payload, lent, number, second, rows = line.split("\t")
-            payload = payload.replace("-", "")
-            stored = listed(rows)
-            assert int(lent) <= NUMBERS and len(payload) <= 2 * LONGEST
-            calls.append(f"{lent} {payload}\n")
-            answers.append(" ".join([number, second, str(NUMBERS - len(stored)), *stored]) + "\n")
+            given, answer = JOBS[job](*line.split("\t"))
+            calls.append(" ".join([job, *given]) + "\n")
+            answers.append(" ".join(answer) + "\n")
     text = "".join(calls)
     assert len(text) <= SIZE
-    crate = pathlib.Path(__file__).resolve().parents[2] / "crates" / "read_replay"
+    crate = pathlib.Path(__file__).resolve().parents[2] / "crates" / "replay"
     (crate / "data").mkdir(exist_ok=True)
-    (crate / "data" / "read.txt").write_text(text)
+    (crate / "data" / "calls.txt").write_text(text)
     (crate / "stdout").write_text("".join(answers))
 
 

@@ -1,5 +1,4 @@
 pub mod Checked
-pub mod Encoding
 pub mod Lists
 pub mod PlainText
 pub mod Promises

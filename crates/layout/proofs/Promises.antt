@@ -12,8 +12,7 @@ use Rattle.layout.specs.declared.refusal.Answer.the-variants.{Accepted, 
 use Rattle.layout.specs.Kinds.{sectionType, kind}
 use Rattle.layout.specs.Refusals.{answerNumber, answerSecond}
 use Rattle.layout.specs.Rows.{noRow, rowsOf}
-use Rattle.layout.specs.Promises.{KindHasNumber, NumberHasKind, NumberHasCompression, NumbersTellAnswers, NumbersTellRefusals, TableKeepsRows, RowsKeepTable, StoredRowIsThere, PayloadSize}
-use Rattle.layout.proofs.Encoding.{encode-least, encode-multiple}
+use Rattle.layout.specs.Promises.{KindHasNumber, NumberHasKind, NumberHasCompression, NumbersTellAnswers, NumbersTellRefusals, TableKeepsRows, RowsKeepTable, StoredRowIsThere}
 use Rattle.layout.proofs.Rows.{length-rowsOf, rowsOf-tableOf, tableOf-rowsOf, rowsOf-storeRow}
 
 pub kind-has-number : KindHasNumber
@@ -95,6 +94,3 @@ rows-keep-table t h = tableOf-rowsOf t h
 pub stored-row-is-there : StoredRowIsThere
 stored-row-is-there t i r h =
     rw (rowsOf-storeRow t i r) (getD-set-same (rowsOf t) i r noRow (rw (length-rowsOf t) h))
-
-pub payload-size : PayloadSize
-payload-size ss = (encode-least ss, encode-multiple ss)

@@ -1,14 +1,18 @@
--- What a text's check says, by its two tests.
+-- What a text's check says, by its two tests; and what its answer says.
+-- Assumes nothing.
 use Prim.Native.Nat.{ℕ, _≤_, _<_}
 use mathlib.Core.Bool.{true, false}
 use mathlib.Core.List.{List}
-use mathlib.Core.Path.{_≡_}
+use mathlib.Core.Path.{_≡_, refl}
+use native.Mathlib.Omega.{arith}
 use borrow.Author.Tests.{lt-ltb, le-ltb}
 use lib.ListN.{length}
 use Rattle.utf8.specs.Rfc3629.{wellFormed}
 use Rattle.wire.specs.Nul.{untilNul}
-use Rattle.layout.specs.Checked.{fault, good, check}
-use Rattle.layout.specs.TextCheck.{checkText}
+use Rattle.layout.specs.Checked.{Checked, fault, good, check}
+use Rattle.layout.specs.TextCheck.{checkText, verdict}
+use Rattle.layout.specs.declared.text_check.Check.the-variants as check
+use Rattle.layout.specs.declared.refusal.Refusal.{Refusal}
 use Rattle.layout.specs.declared.refusal.Refusal.the-variants.{NotUtf8, InnerNul}
 
 pub check-not-utf8 : (text : List ℕ) → wellFormed text ≡ false → checkText text ≡ fault NotUtf8
@@ -22,3 +26,11 @@ check-inner-nul text e h = rw (e, lt-ltb (untilNul text) (length text) h)
 pub check-passed : (text : List ℕ) → wellFormed text ≡ true → length text ≤ untilNul text → checkText text ≡ good tt
 unfolding checkText check
 check-passed text e h = rw (e, le-ltb (untilNul text) (length text) h)
+
+pub passed : (c : Checked (Unit {0})) → verdict c ≡ check.Passed → c ≡ good tt
+passed (fault r) e = let z : _≡_ {A = ℕ} 0 1 = cc in absurd (omega arith)
+passed (good a) e = refl
+
+pub not-passed : (c : Checked (Unit {0})) (r : Refusal) → verdict c ≡ check.Refused r → c ≡ fault r
+not-passed (fault q) r e = cc
+not-passed (good a) r e = let z : _≡_ {A = ℕ} 0 1 = cc in absurd (omega arith)

@@ -1,9 +1,7 @@
 pub mod Checked
-pub mod Encoding
 pub mod Kinds
 pub mod Promises
 pub mod Refusals
 pub mod Rows
-pub mod Sections
 pub mod TextCheck
 pub mod Texts

@@ -1,5 +1,5 @@
 -- What the layout's definitions promise of each other. Each is proved under its name in proofs/Promises.antt.
-use Prim.Native.Nat.{ℕ, _/_, _%_, _≤_, _<_}
+use Prim.Native.Nat.{ℕ, _/_, _%_, _<_}
 use mathlib.Core.Path.{_≡_}
 use mathlib.Core.List.{List}
 use lib.ListN.{length, getD}
@@ -9,11 +9,9 @@ use Rattle.layout.specs.declared.compression.MaybeCompression.the-varian
 use Rattle.layout.specs.declared.refusal.Refusal.{Refusal}
 use Rattle.layout.specs.declared.refusal.Answer.{Answer}
 use Rattle.layout.specs.declared.row.Row.{Row}
-use Rattle.layout.specs.Encoding.{encode}
 use Rattle.layout.specs.Kinds.{sectionType, kind, compression, compressionNumber}
 use Rattle.layout.specs.Refusals.{refusalNumber, refusalSecond, answerNumber, answerSecond}
 use Rattle.layout.specs.Rows.{width, noRow, rowsOf, tableOf, storeRow}
-use Rattle.layout.specs.Sections.{Section}
 
 -- a number is that of the kind that it stands for
 abbrev pub KindHasNumber : Type 0
@@ -49,7 +47,3 @@ RowsKeepTable = (t : List ℕ) → length t % width ≡ 0 → tableOf (rowsOf t)
 abbrev pub StoredRowIsThere : Type 0
 StoredRowIsThere =
     (t : List ℕ) (i : ℕ) (r : Row) → i < length t / width → getD (rowsOf (storeRow t i r)) i noRow ≡ r
-
--- a payload has at least the 8 bytes of its header, and is a multiple of 4
-abbrev pub PayloadSize : Type 0
-PayloadSize = (ss : List Section) → (8 ≤ length (encode ss)) × (length (encode ss) % 4 ≡ 0)

@@ -13,7 +13,7 @@ pub enum SourceInfoSectionType {
     Unknown(u16),
 }
 
-// Each size is in bytes and counts the header alone, not what follows it.
+// Each header size is in bytes and counts the header alone, not what follows it.
 impl SourceInfoSectionType {
     pub const MAIN_HEADER_SIZE: usize = 8;
 
@@ -28,6 +28,16 @@ impl SourceInfoSectionType {
     pub const CONTENTS_HEADER_SIZE: usize = 20;
 
     pub const CONTENT_ENTRY_HEADER_SIZE: usize = 12;
+
+    // Where a section's stored bytes start: after the section header and the body header.
+    pub const ARGS_START: usize = SourceInfoSectionType::SECTION_HEADER_SIZE
+        + SourceInfoSectionType::ARGS_HEADER_SIZE;
+
+    pub const NAMES_START: usize = SourceInfoSectionType::SECTION_HEADER_SIZE
+        + SourceInfoSectionType::NAMES_HEADER_SIZE;
+
+    pub const CONTENTS_START: usize = SourceInfoSectionType::SECTION_HEADER_SIZE
+        + SourceInfoSectionType::CONTENTS_HEADER_SIZE;
 
     pub fn from_u16(value: u16) -> Self
         ensures { λ r. ⌜ r ≡ sectionType value ⌝ }

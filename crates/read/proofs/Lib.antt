@@ -1,16 +1,2 @@
-pub mod Answers
-pub mod BodyTests
-pub mod Count
-pub mod EarlyFaults
-pub mod EntryLaws
-pub mod Outcomes
-pub mod PairLaws
-pub mod Promises
-pub mod RowCount
-pub mod RowsPlaced
-pub mod SectionLaws
-pub mod SectionTests
-pub mod Steps
+pub mod StoreSteps
 pub mod Stored
-pub mod WalkLaws
-pub mod Walking

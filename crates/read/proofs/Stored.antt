@@ -9,7 +9,7 @@ use lib.ListN.{length, drop, length-append}
 use Rattle.layout.specs.Rows.{width, tableOf, storeRow}
 use Rattle.layout.specs.declared.row.Row.{Row}
 use Rattle.layout.proofs.Rows.{store-next}
-use Rattle.read.specs.Walk.{storeRows}
+use Rattle.read.specs.Store.{storeRows}
 
 pub storeRows-append : (table : List ℕ) (index : ℕ) (a b : List Row) → storeRows table index (a ++ b) ≡ storeRows (storeRows table index a) (index + length a) b
 unfolding storeRows

@@ -1,5 +1,1 @@
-pub mod Outcome
-pub mod Parse
-pub mod Promises
-pub mod Read
-pub mod Walk
+pub mod Store

@@ -7,21 +7,20 @@ ghost use lib.ListN.{length, drop};
 ghost use Rattle.wire.specs.Nul.{untilNul};
 ghost use Rattle.wire.specs.Number.{u16At, u32At};
 ghost use Rattle.layout.specs.Checked.{isGood};
-ghost use Rattle.layout.specs.Encoding.{limit};
+ghost use Rattle.format.specs.Encoding.{limit};
 ghost use Rattle.layout.specs.Rows.{row};
-ghost use Rattle.read.specs.Outcome.{afterPair};
-ghost use Rattle.read.specs.Parse.{contents, body, parse};
-ghost use Rattle.read.specs.Walk.{entryRow, walkEntries, entriesEnd, pairRow, walkPairs, pairsEnd, walkContents, walkSection, walk, storeRows};
-use crate::arguments::PAIRS_START;
-use crate::contents::CONTENT_HEADER;
-use crate::contents::CONTENTS_START;
-use crate::names::NAME_HEADER;
-use crate::names::NAMES_START;
+ghost use Rattle.format.specs.Parse.{contents, body, parse, afterPair};
+ghost use Rattle.format.specs.Walk.{entryRow, walkEntries, entriesEnd, pairRow, walkPairs, pairsEnd, walkContents, walkSection, walk};
+ghost use Rattle.read.specs.Store.{storeRows};
 use layout::Row;
 use layout::SourceInfoSectionType;
 use wire::Terminated;
 use wire::TextLength;
 use wire::WireSize;
+
+const NAME_HEADER: u32 = SourceInfoSectionType::NAME_ENTRY_HEADER_SIZE as u32;
+
+const CONTENT_HEADER: u32 = SourceInfoSectionType::CONTENT_ENTRY_HEADER_SIZE as u32;
 
 // A row that has no numbers: it begins names or arguments.
 fn bare_row(tag: u32) -> Row
@@ -38,14 +37,14 @@ fn bare_row(tag: u32) -> Row
     }
 }
 
-// The length of the text of an entry at a place.
-fn entry_text(payload: &[u8], at: usize) -> u32
+// The length of the text of an entry at a place; 0 where its size is 0, which the first pass refuses.
+fn entry_text(payload: &[u8], at: usize) -> TextLength
     requires { ⌜ at ≤ length (now payload) ⌝ }
-    ensures { λ r. ⌜ r ≡ u32At (now (payload .entry)) (at + 8) - 1 ⌝ }
+    ensures { λ r. ⌜ r .0 ≡ u32At (now (payload .entry)) (at + 8) - 1 ⌝ }
 {
     match WireSize(wire::read_u32(payload, at + 8) as usize).text_length() {
-        Terminated::Text(text) => text.0,
-        Terminated::Nothing => 0,
+        Terminated::Text(text) => text,
+        Terminated::Nothing => TextLength(0),
     }
 }
 
@@ -55,13 +54,13 @@ fn entry_row(payload: &[u8], header: u32, at: usize) -> Row
     requires { ⌜ length (now payload) ≤ limit ⌝ }
     ensures { λ r. ⌜ r ≡ entryRow (now (payload .entry)) header at ⌝ }
 {
-    let length = entry_text(payload, at);
+    let text = entry_text(payload, at);
     if header == NAME_HEADER {
         return Row {
             tag: 6,
             side: 0,
             a: (at + SourceInfoSectionType::NAME_ENTRY_HEADER_SIZE) as u32,
-            b: length,
+            b: text.0,
             c: wire::read_u32(payload, at + 12),
             d: 0,
             e: 0,
@@ -71,7 +70,7 @@ fn entry_row(payload: &[u8], header: u32, at: usize) -> Row
         tag: 5,
         side: 0,
         a: (at + SourceInfoSectionType::CONTENT_ENTRY_HEADER_SIZE) as u32,
-        b: length,
+        b: text.0,
         c: 0,
         d: 0,
         e: 0,
@@ -175,7 +174,7 @@ fn fill_contents(payload: &[u8], at: usize, rows: &mut [u32], index: usize) -> u
             payload,
             CONTENT_HEADER,
             count,
-            at + CONTENTS_START,
+            at + SourceInfoSectionType::CONTENTS_START,
             rows,
             index + 1,
         );
@@ -185,7 +184,7 @@ fn fill_contents(payload: &[u8], at: usize, rows: &mut [u32], index: usize) -> u
         tag: 1,
         side: 0,
         a: field,
-        b: (at + CONTENTS_START) as u32,
+        b: (at + SourceInfoSectionType::CONTENTS_START) as u32,
         c: wire::read_u32(payload, at + 16),
         d: count,
         e: wire::read_u32(payload, at + 20),
@@ -231,7 +230,7 @@ fn fill_section(payload: &[u8], at: usize, rows: &mut [u32], index: usize) -> us
                 payload,
                 NAME_HEADER,
                 count,
-                at + NAMES_START,
+                at + SourceInfoSectionType::NAMES_START,
                 rows,
                 index + 1,
             );
@@ -240,7 +239,13 @@ fn fill_section(payload: &[u8], at: usize, rows: &mut [u32], index: usize) -> us
         SourceInfoSectionType::Arguments => {
             bare_row(3).store(rows, index);
             let count = wire::read_u32(payload, at + 16);
-            fill_pairs(payload, count, at + PAIRS_START, rows, index + 1);
+            fill_pairs(
+                payload,
+                count,
+                at + SourceInfoSectionType::ARGS_START,
+                rows,
+                index + 1,
+            );
             index + 1 + count as usize
         }
         SourceInfoSectionType::Unknown(kind) => {

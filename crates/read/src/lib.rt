@@ -1,33 +1,26 @@
 // Reading a payload into rows: the port of parse_srci.
 //
-// A first pass checks the payload and counts its rows, and stores nothing (`parse_srci` and what it
-// calls). A second pass walks the checked payload and stores the rows (`fill_srci` and what it calls).
+// The first pass checks the payload and counts its rows, and stores nothing (crate parse). The second walks
+// the checked payload and stores the rows (`fill_srci` and what it calls).
 //
-// Proved: the answer and the table afterwards are those that specs/ defines, for every byte string and
-// every table. Nothing is assumed.
-mod arguments;
-mod contents;
-mod entries;
+// Proved: the answer and the table afterwards are those that crate format defines (specs/Read.antt), for
+// every byte string and every table. Nothing is assumed.
 mod fill;
-mod framing;
-mod names;
-mod outcome;
-mod source_info;
 
 ghost use mathlib.Core.Path.{_≡_};
 ghost use lib.ListN.{length};
-ghost use Rattle.read.specs.Read.{readAnswer, readTable};
-use crate::outcome::Counted;
+ghost use Rattle.format.specs.Read.{readAnswer, readTable};
 use layout::Answer;
 use layout::Refusal;
 use layout::Row;
+use parse::Counted;
 
 // Reads a payload into the rows of a lent table, whole, or refuses it and leaves the table as it was.
 pub fn read(payload: &[u8], rows: &mut [u32]) -> Answer
     ensures { λ r. ⌜ r ≡ readAnswer (now (payload .entry)) (length (now (rows .entry))) ⌝ }
     ensures { λ _. ⌜ now (rows .exit) ≡ readTable (now (payload .entry)) (now (rows .entry)) ⌝ }
 {
-    match source_info::parse_srci(payload) {
+    match parse::parse_srci(payload) {
         Counted::Refused(refusal) => Answer::Refused(refusal),
         Counted::Rows(count) => {
             if (rows.len() / Row::WIDTH) < count as usize {

@@ -5,7 +5,25 @@
 ghost use mathlib.Core.Path.{_≡_};
 ghost use lib.ListN.{length};
 ghost use Rattle.layout.specs.Refusals.{answerNumber, answerSecond};
-ghost use Rattle.read.specs.Read.{readAnswer, readTable};
+ghost use Rattle.format.specs.Read.{readAnswer, readTable};
+use layout::Answer;
+
+// An answer as C has it: 0 with the rows or bytes stored in `second`, or the refusal's number with its second number.
+fn tell(answer: Answer, second: &mut u32) -> u32
+    ensures { λ r. ⌜ r ≡ answerNumber answer ⌝ }
+    ensures { λ _. ⌜ now (second .exit) ≡ answerSecond answer ⌝ }
+{
+    match answer {
+        Answer::Accepted(stored) => {
+            *second = stored;
+            0
+        }
+        Answer::Refused(refusal) => {
+            *second = refusal.second();
+            refusal.number()
+        }
+    }
+}
 
 // Reads a payload into the rows of a lent table. Answers 0, or the refusal's number. Stores in `second`
 // how many rows were stored, or the refusal's second number.
@@ -16,6 +34,5 @@ pub extern "C" fn srci_read(payload: &[u8], rows: &mut [u32], second: &mut u32) 
     ensures { λ _. ⌜ now (second .exit) ≡ answerSecond (readAnswer (now (payload .entry)) (length (now (rows .entry)))) ⌝ }
 {
     let answer = read::read(payload, rows);
-    *second = answer.second();
-    answer.number()
+    tell(answer, second)
 }

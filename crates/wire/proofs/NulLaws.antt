@@ -1,15 +1,16 @@
 -- The laws of the first NUL: where it stands, what stands before it, and a step over bytes that are none.
 -- Assumes nothing.
-use mathlib.Core.Path.{_≡_, refl, ap, _∙_}
+use mathlib.Core.Bool.{Bool, true, false}
+use mathlib.Core.Path.{_≡_, refl, sym, ap, _∙_}
 use mathlib.Core.List.{List, [], _∷_}
 use Prim.Native.Nat.{ℕ, zero, suc, _+_, _≤_, _<_}
 use native.Mathlib.Nat.{add-zero}
 use native.Mathlib.Numerals.{add-one}
 use native.Mathlib.Omega.{arith}
-use lib.Dec.{eqb·suc-zero}
-use lib.ListN.{length, getD, take, drop, List·getD-eq-default}
-use lib.Seq.{drop-cons, drop-nil}
-use borrow.Author.Tests.{ne-eqb}
+use lib.Dec.{ltb, eqb·suc-zero}
+use lib.ListN.{length, getD, take, drop, length-take, List·getD-eq-default}
+use lib.Seq.{drop-cons, drop-nil, getD-take}
+use borrow.Author.Tests.{ne-eqb, ltb-true, ltb-false}
 use Rattle.wire.specs.Nul.{untilNul}
 
 over : (b : ℕ) (s : List ℕ) → untilNul (suc b ∷ s) ≡ suc (untilNul s)
@@ -43,6 +44,17 @@ until-prefix [] (suc n) h = refl
 until-prefix (zero ∷ s) (suc n) h = refl
 until-prefix (suc b ∷ s) (suc n) h =
     omega (arith, over b s, over b (take n s), until-prefix s n (omega (arith, over b s)))
+
+-- the first NUL of a prefix that has one is the first of the whole
+pub until-in-prefix : (s : List ℕ) (n : ℕ) → untilNul (take n s) < length (take n s) → untilNul (take n s) ≡ untilNul s
+until-in-prefix s n h = go (ltb (untilNul s) n) refl
+  where
+    go : (b : Bool) → ltb (untilNul s) n ≡ b → untilNul (take n s) ≡ untilNul s
+    go true e = until-prefix s n (ltb-true _ _ e)
+    go false e =
+        let k : ℕ = untilNul (take n s) in
+        let inside : k < n = omega (arith, length-take n s) in
+        absurd (until-before s k (omega (arith, ltb-false (untilNul s) n e)) (sym (getD-take n s k 0 inside) ∙ until-at (take n s) h))
 
 -- ---- from a place on
 

@@ -12,13 +12,13 @@ use Rattle.layout.specs.Checked.{good, isGood}
 use Rattle.layout.specs.declared.row.Row.{Row}
 use Rattle.layout.specs.declared.refusal.Answer.the-variants.{Accepted, Refused}
 use Rattle.layout.specs.declared.refusal.Refusal.the-variants.{NoRows}
-use Rattle.read.specs.Parse.{parse}
-use Rattle.read.specs.Walk.{storeRows}
-use Rattle.read.proofs.Answers.{refused, too-few, held}
-use Rattle.read.proofs.Outcomes.{rows-counted, rows-refused}
+use Rattle.format.specs.Parse.{parse}
+use Rattle.format.proofs.Answers.{refused, too-few, held}
+use Rattle.parse.proofs.Outcomes.{rows-counted, rows-refused}
 use Rattle.read.proofs.Stored.{stored-from-start}
-use Rattle.read.proofs.WalkLaws.{parse-walk}
+use Rattle.format.proofs.WalkLaws.{parse-walk}
 use Rattle.read.proofs.read.Statement.{statement}
+use Rattle.read.specs.Store.{storeRows}
 use Rattle.read.proofs.read.Tie as tie
 
 -- the rows that were counted

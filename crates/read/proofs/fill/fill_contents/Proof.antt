@@ -5,11 +5,12 @@ use mathlib.Core.Path.{sym, _∙_}
 use native.Mathlib.Omega.{arith}
 use borrow.Author.Needs.{needs}
 use Rattle.wire.specs.Number.{u32At}
-use Rattle.read.specs.Walk.{storeRows, entriesEnd, walkContents}
-use Rattle.read.proofs.Steps.{is-good}
-use Rattle.read.proofs.Walking.{length-walkEntries, entries-forward, packed-walk}
-use Rattle.read.proofs.WalkLaws.{contents-within}
+use Rattle.format.specs.Walk.{entriesEnd, walkContents}
+use Rattle.layout.proofs.Checked.{is-good}
+use Rattle.format.proofs.Walking.{length-walkEntries, entries-forward, packed-walk}
+use Rattle.format.proofs.WalkLaws.{contents-within}
 use Rattle.read.proofs.fill.fill_contents.Statement.{statement}
+use Rattle.read.specs.Store.{storeRows}
 use Rattle.read.proofs.fill.fill_contents.Tie as tie
 
 -- the entries of plain contents end within the section

@@ -6,9 +6,11 @@ use native.Mathlib.Nat.{add-zero, sub-zero}
 use native.Mathlib.Omega.{arith}
 use borrow.Author.Needs.{needs}
 use lib.ListN.{length}
-use Rattle.read.specs.Walk.{storeRows, walkEntries, entriesEnd}
-use Rattle.read.proofs.Walking.{entries-forward, entries-end-step, entries-store-step, entries-store-done}
+use Rattle.format.specs.Walk.{walkEntries, entriesEnd}
+use Rattle.format.proofs.Walking.{entries-forward, entries-end-step}
 use Rattle.read.proofs.fill.fill_entries.Statement.{statement}
+use Rattle.read.specs.Store.{storeRows}
+use Rattle.read.proofs.StoreSteps.{entries-store-step, entries-store-done}
 use Rattle.read.proofs.fill.fill_entries.Tie as tie
 
 abbrev Inv-loop : tie.InvT-loop

@@ -6,10 +6,12 @@ use native.Mathlib.Nat.{add-zero, sub-zero}
 use native.Mathlib.Omega.{arith}
 use borrow.Author.Needs.{needs}
 use lib.ListN.{length}
-use Rattle.read.specs.Outcome.{afterPair}
-use Rattle.read.specs.Walk.{storeRows, pairRow, walkPairs, pairsEnd}
-use Rattle.read.proofs.Walking.{pairs-forward, pairs-end-step, pairs-store-step, pairs-store-done}
+use Rattle.format.specs.Walk.{pairRow, walkPairs, pairsEnd}
+use Rattle.format.proofs.Walking.{pairs-forward, pairs-end-step}
 use Rattle.read.proofs.fill.fill_pairs.Statement.{statement}
+use Rattle.format.specs.Parse.{afterPair}
+use Rattle.read.specs.Store.{storeRows}
+use Rattle.read.proofs.StoreSteps.{pairs-store-step, pairs-store-done}
 use Rattle.read.proofs.fill.fill_pairs.Tie as tie
 
 abbrev Inv-loop : tie.InvT-loop

@@ -11,12 +11,13 @@ use Rattle.layout.specs.declared.row.Row.{Row}
 use Rattle.layout.specs.declared.section_type.SourceInfoSectionType.{SourceInfoSectionType}
 use Rattle.layout.specs.declared.section_type.SourceInfoSectionType.the-variants.{SourceContents, SourceNames, Arguments}
 use Rattle.layout.proofs.Promises.{kind-has-number}
-use Rattle.read.specs.Parse.{body}
-use Rattle.read.specs.Walk.{storeRows, entriesEnd, pairsEnd, walkSection}
-use Rattle.read.proofs.Steps.{is-good}
-use Rattle.read.proofs.Walking.{length-walkEntries, entries-forward, length-walkPairs, pairs-forward, unknown-walk}
-use Rattle.read.proofs.WalkLaws.{names-walk, arguments-walk}
+use Rattle.format.specs.Parse.{body}
+use Rattle.format.specs.Walk.{entriesEnd, pairsEnd, walkSection}
+use Rattle.layout.proofs.Checked.{is-good}
+use Rattle.format.proofs.Walking.{length-walkEntries, entries-forward, length-walkPairs, pairs-forward, unknown-walk}
+use Rattle.format.proofs.WalkLaws.{names-walk, arguments-walk}
 use Rattle.read.proofs.fill.fill_section.Statement.{statement}
+use Rattle.read.specs.Store.{storeRows}
 use Rattle.read.proofs.fill.fill_section.Tie as tie
 
 -- the kind's number, and the good body of that kind

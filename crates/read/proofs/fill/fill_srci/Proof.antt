@@ -10,15 +10,17 @@ use borrow.Author.Needs.{needs}
 use lib.ListN.{length}
 use Rattle.wire.specs.Number.{u16At, u32At}
 use Rattle.layout.specs.Checked.{isGood}
-use Rattle.layout.specs.Encoding.{limit}
-use Rattle.read.specs.Parse.{body, sections}
-use Rattle.read.specs.Walk.{storeRows, walkSection, walkSections, walk}
-use Rattle.read.proofs.Steps.{is-good}
-use Rattle.read.proofs.RowCount.{body-count}
-use Rattle.read.proofs.SectionLaws.{sections-good, parse-good}
-use Rattle.read.proofs.Walking.{one-fewer, sections-store-step, sections-store-done}
-use Rattle.read.proofs.WalkLaws.{body-walk}
+use Rattle.format.specs.Encoding.{limit}
+use Rattle.format.specs.Parse.{body, sections}
+use Rattle.format.specs.Walk.{walkSection, walkSections, walk}
+use Rattle.layout.proofs.Checked.{is-good}
+use Rattle.format.proofs.RowCount.{body-count}
+use Rattle.format.proofs.SectionLaws.{sections-good, parse-good}
+use Rattle.format.proofs.Walking.{one-fewer}
+use Rattle.format.proofs.WalkLaws.{body-walk}
 use Rattle.read.proofs.fill.fill_srci.Statement.{statement}
+use Rattle.read.specs.Store.{storeRows}
+use Rattle.read.proofs.StoreSteps.{sections-store-step, sections-store-done}
 use Rattle.read.proofs.fill.fill_srci.Tie as tie
 
 abbrev Inv-loop : tie.InvT-loop

@@ -1,0 +1,15 @@
+pub mod Answers
+pub mod BodyTests
+pub mod EarlyFaults
+pub mod Encoding
+pub mod EntryLaws
+pub mod Output
+pub mod PairLaws
+pub mod Promises
+pub mod RowCount
+pub mod RowsPlaced
+pub mod Samples
+pub mod SectionLaws
+pub mod SectionTests
+pub mod WalkLaws
+pub mod Walking

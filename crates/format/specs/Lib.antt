@@ -1,0 +1,22 @@
+-- Layout: what a payload says, and its bytes
+pub mod Sections
+pub mod Encoding
+-- Rows: what they may hold, and what they say
+pub mod Rules
+pub mod Resolve
+-- The jobs and their refusals: reading, writing, listing
+pub mod Parse
+pub mod Read
+pub mod Output
+pub mod Write
+pub mod Display
+pub mod Listing
+-- Public copy
+pub mod PublicCopy
+pub mod PublicFacts
+-- Sample payloads
+pub mod Samples
+-- What follows from the definitions
+pub mod Promises
+-- How a second pass goes over a payload
+pub mod Walk

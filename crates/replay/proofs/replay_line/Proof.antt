@@ -1,0 +1,61 @@
+-- `replay::replay_line` is safe and ends: the space lies in the line.
+-- Assumes nothing.
+use mathlib.Core.Path.{sym}
+use native.Mathlib.Omega.{arith}
+use lib.Seq.{length-take-le}
+use borrow.Author.Needs.{needs}
+use Rattle.replay.proofs.replay_line.Statement.{statement}
+use Rattle.replay.proofs.replay_line.Tie as tie
+
+find-requires : tie.Need-find-requires
+find-requires c κs = search needs
+
+returns : tie.Need-returns
+returns c = search needs
+
+add-start : tie.Need-add-start
+add-start c = search needs
+
+slice-aggregate-same : tie.Need-slice-aggregate-same
+slice-aggregate-same c = sym (length-take-le _ _ (omega arith))
+
+slice-aggregate-same-2 : tie.Need-slice-aggregate-same-2
+slice-aggregate-same-2 c = search needs
+
+same-requires : tie.Need-same-requires
+same-requires c κs = search needs
+
+sub-read-line : tie.Need-sub-read-line
+sub-read-line c = search needs
+
+part-read-line-start : tie.Need-part-read-line-start
+part-read-line-start c = search needs
+
+part-read-line-end : tie.Need-part-read-line-end
+part-read-line-end c = search needs
+
+read-line-requires : tie.Need-read-line-requires
+read-line-requires c κs = search needs
+
+returns-2 : tie.Need-returns-2
+returns-2 c = search needs
+
+returns-3 : tie.Need-returns-3
+returns-3 c = search needs
+
+pub replay-line-spec : {M : Type 1} → statement M
+replay-line-spec =
+    tie.close
+    (tie.spec
+    find-requires
+    returns
+    add-start
+    slice-aggregate-same
+    slice-aggregate-same-2
+    same-requires
+    sub-read-line
+    part-read-line-start
+    part-read-line-end
+    read-line-requires
+    returns-2
+    returns-3)

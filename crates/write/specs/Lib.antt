@@ -1,4 +1,0 @@
-pub mod Resolve
-pub mod Rules
-pub mod Samples
-pub mod Write
