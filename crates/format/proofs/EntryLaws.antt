@@ -1,63 +1,76 @@
--- What a section's header, its frame, an entry and a run of entries say where they are good.
+-- What an entry and a run of entries say where they are good; and an entry of which all that is said is good.
 -- Assumes nothing.
 use Prim.Native.Nat.{ℕ, zero, suc, _+_, _-_, _*_, _≤_}
 use mathlib.Core.List.{List, [], _∷_}
-use mathlib.Core.Path.{_≡_, ap, sym, _∙_}
+use mathlib.Core.Bool.{true}
+use mathlib.Core.Path.{_≡_, refl, ap, _∙_}
 use native.Mathlib.Omega.{arith}
-use borrow.Author.Tests.{leb-true, ltb-true, eqb-true}
+use borrow.Author.Tests.{leb-true, ltb-true, eqb-true, le-leb, lt-ltb, eq-eqb}
 use lib.ListN.{length}
 use Rattle.wire.specs.Length.{wireSize}
-use Rattle.wire.specs.Number.{u32At}
-use Rattle.wire.specs.Padding.{aligned}
-use Rattle.wire.proofs.PaddingLaws.{aligned-by-arithmetic}
+use Rattle.wire.specs.Number.{byteAt, u32At}
+use Rattle.wire.specs.Padding.{padding, aligned, allZero}
+use Rattle.wire.proofs.PaddingLaws.{aligned-by-arithmetic, le-aligned}
 use Rattle.layout.specs.Checked.{good}
 use Rattle.layout.specs.declared.row.Row.{Row}
-use Rattle.layout.proofs.Checked.{check-good, then-good}
-use Rattle.format.specs.Parse.{entry, afterEntry, entries, frame, framed}
-
--- ---- sections
-
-pub frame-good : (p : List ℕ) (at size : ℕ) → frame p at ≡ good size → (8 ≤ size) × (at + size ≤ length p) × (size ≡ u32At p at)
-unfolding frame
-frame-good p at size e =
-    let there = check-good _ _ _ _ e in
-    let least = check-good _ _ _ _ (there .1) in
-    let whole = check-good _ _ _ _ (least .1) in
-    let within = check-good _ _ _ _ (whole .1) in
-    let no-flags = check-good _ _ _ _ (within .1) in
-    let found = no-flags .1 in
-    let same : u32At p at ≡ size = cc in
-    (omega (arith, leb-true), omega (arith, leb-true), sym same)
-
-pub framed-good : (p : List ℕ) (at size headers bytes : ℕ) → framed p at size headers bytes ≡ good tt → size ≡ aligned (headers + bytes)
-unfolding framed
-framed-good p at size headers bytes e = eqb-true size (aligned (headers + bytes)) (check-good _ _ _ _ e .0)
+use Rattle.layout.specs.TextCheck.{checkText}
+use Rattle.layout.specs.Texts.{part}
+use Rattle.layout.proofs.Checked.{check-good, then-good, check-passes, then-passes}
+use Rattle.format.specs.Parse.{terminatedText, entry, afterEntry, entries}
 
 -- ---- an entry
 
--- a good entry ends within its bytes, and its header has its text's size and its own
+-- what an entry whose text has a length is where it is good
 pub record Entry (header : ℕ) (p : List ℕ) (at end n : ℕ) : Type 0 where
+  -- it ends within its bytes, and its header has no flags, its text's size and its own
   pub within : at + aligned (header + wireSize n) ≤ end
+  pub flags : u32At p (at + 4) ≡ 0
   pub text : u32At p (at + 8) ≡ wireSize n
   pub size : u32At p at ≡ aligned (header + wireSize n)
+  -- its text passes the check, and has a NUL and zeros after it
+  pub checked : checkText (part p (at + header) n) ≡ good tt
+  pub closed : byteAt p (at + header + n) ≡ 0
+  pub padded : allZero (part p (at + header + wireSize n) (padding (header + wireSize n))) ≡ true
 
-pub entry-good : (header : ℕ) (p : List ℕ) (at end n : ℕ) → entry header p at end ≡ good n → Entry header p at end n
-unfolding entry
-entry-good header p at end n e =
-    let long = check-good _ _ _ _ e in
-    let no-flags = check-good _ _ _ _ (long .1) in
-    let some = check-good _ _ _ _ (no-flags .1) in
-    let sized = check-good _ _ _ _ (some .1) in
-    let inside = check-good _ _ _ _ (sized .1) in
-    let closed = then-good _ _ _ (inside .1) in
-    let found = closed .2 in
-    let same : u32At p (at + 8) - 1 ≡ n = cc in
-    let text : u32At p (at + 8) ≡ wireSize n = omega (arith, ltb-true) in
-    record {
-      within = rw (← text) (leb-true _ _ (inside .0));
-      text = text;
-      size = rw (← text) (eqb-true _ _ (sized .0));
-    }
+module _ (header : ℕ) (p : List ℕ) (at end n : ℕ) where
+  pub entry-good : entry header p at end ≡ good n → Entry header p at end n
+  unfolding entry terminatedText
+  entry-good e =
+      let long = check-good _ _ _ _ e in
+      let no-flags = check-good _ _ _ _ (long .1) in
+      let some = check-good _ _ _ _ (no-flags .1) in
+      let sized = check-good _ _ _ _ (some .1) in
+      let inside = check-good _ _ _ _ (sized .1) in
+      let (done, held, found) = then-good _ _ _ (inside .1) in
+      let closed = check-good _ _ _ _ held in
+      let (passed, text-good, after) = then-good _ _ _ (closed .1) in
+      let zeros = check-good _ _ _ _ after in
+      let last : u32At p (at + 8) - 1 ≡ n = cc in
+      let text : u32At p (at + 8) ≡ wireSize n = omega (arith, ltb-true) in
+      record {
+        within = rw (← text) (leb-true _ _ (inside .0));
+        flags = eqb-true _ _ (no-flags .0);
+        text = text;
+        size = rw (← text) (eqb-true _ _ (sized .0));
+        checked = rw (← last) text-good;
+        closed = rw (← last) (eqb-true _ _ (closed .0));
+        padded = rw (← text) (zeros .0);
+      }
+
+  pub entry-found : Entry header p at end n → entry header p at end ≡ good n
+  unfolding entry terminatedText
+  entry-found g =
+      let last : wireSize n - 1 ≡ n = omega arith in
+      rw (g .text, last)
+      (check-passes _ _ _ (le-leb (at + header) end (omega (arith, g .within, le-aligned (header + wireSize n))))
+      (check-passes _ _ _ (eq-eqb (u32At p (at + 4)) 0 (g .flags))
+      (check-passes _ _ _ (lt-ltb 0 (wireSize n) (omega arith))
+      (check-passes _ _ _ (eq-eqb (u32At p at) (aligned (header + wireSize n)) (g .size))
+      (check-passes _ _ _ (le-leb (at + aligned (header + wireSize n)) end (g .within))
+      (then-passes _ _
+      (check-passes _ _ _ (eq-eqb (byteAt p (at + header + n)) 0 (g .closed))
+      (then-passes _ _ (g .checked) (check-passes _ _ _ (g .padded) refl)))
+      refl))))))
 
 -- ---- entries
 

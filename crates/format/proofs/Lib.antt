@@ -1,15 +1,41 @@
-pub mod Answers
+-- Reading, by its tests
 pub mod BodyTests
-pub mod EarlyFaults
-pub mod Encoding
+pub mod SectionTests
+pub mod FrameLaws
 pub mod EntryLaws
-pub mod Output
 pub mod PairLaws
-pub mod Promises
+pub mod SectionLaws
+pub mod EarlyFaults
+pub mod Answers
+-- Rows of an accepted payload
 pub mod RowCount
 pub mod RowsPlaced
-pub mod Samples
-pub mod SectionLaws
-pub mod SectionTests
-pub mod WalkLaws
 pub mod Walking
+pub mod WalkLaws
+-- Encoding and output
+pub mod Encoding
+pub mod Output
+-- What stands at a place: from reading to bytes, and from bytes to reading
+pub mod TextsOk
+pub mod Stands
+pub mod EntryBytes
+pub mod PairBytes
+pub mod PlacedRows
+pub mod Runs
+pub mod Items
+pub mod SectionBytes
+pub mod BodiesStand
+pub mod BodiesRead
+pub mod PayloadStands
+pub mod PayloadRead
+-- What rows say
+pub mod RowsByTag
+pub mod RowRules
+pub mod RowsSay
+pub mod RowsStand
+pub mod Encoded
+-- The promises
+pub mod Promises
+pub mod RoundTrips
+pub mod Renaming
+pub mod Samples

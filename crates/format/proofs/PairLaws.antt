@@ -69,16 +69,19 @@ module _ (p : List ℕ) (at end : ℕ) where
       text-well-formed (omega (arith, length-run p at end m)) (ap (λ (k : ℕ). wellFormed (part p at k)) found ∙ ascii-well-formed (part p at n) ascii) ∙
       ap {B = Checked ℕ} (λ (k : ℕ). good k) found
 
-  -- a good text ends before `end`, at the first NUL of all the bytes from its place on
-  pub pairText-good : (n : ℕ) → pairText p at end ≡ good n → (at + wireSize n ≤ end) × (n ≡ untilNul (drop at p))
+  -- a good text is well formed, and ends before `end`, at the first NUL of all the bytes from its place on
+  pub pairText-good : (n : ℕ) → pairText p at end ≡ good n → (at + wireSize n ≤ end) × (n ≡ untilNul (drop at p)) × (wellFormed (part p at n) ≡ true)
   unfolding pairText
   pairText-good n e =
       let ended = check-good _ _ _ _ e in
       let told = check-good _ _ _ _ (ended .1) in
       let found = told .1 in
       let same : untilNul (run p at end) ≡ n = cc in
-      let inside : untilNul (run p at end) < length (run p at end) = ltb-true _ _ (ended .0) in
-      (omega (arith, length-take (end - at) (drop at p)), sym same ∙ until-in-prefix (drop at p) (end - at) inside)
+      let inside : untilNul (run p at end) < length (run p at end) = ltb-true _ _ (ended .0) in (
+        omega (arith, length-take (end - at) (drop at p)),
+        sym same ∙ until-in-prefix (drop at p) (end - at) inside,
+        rw (← same) (told .0),
+      )
 
   -- ---- a pair
 

@@ -20,7 +20,7 @@ rows-length {found} rs e = let same : found ≡ rs = cc in ap length same
 module _ (p : List ℕ) (at size : ℕ) (rs : List Row) where
   contents-count : contents p at size ≡ good rs → 2 * length rs ≤ size
   unfolding stored
-  contents-count e = let told = contents-good p at size rs e in go (u16At p (at + 14)) (told .0) (told .1)
+  contents-count e = let told = contents-good p at size rs e in go (u16At p (at + 14)) (told .0 .within) (told .1)
     where
       go : (n : ℕ) → 28 + u32At p (at + 16) ≤ size → stored n p at (u32At p (at + 16)) ≡ good rs → 2 * length rs ≤ size
       go zero h f =
@@ -32,13 +32,13 @@ module _ (p : List ℕ) (at size : ℕ) (rs : List Row) where
   names-count e =
       let told = names-good p at size rs e in
       let h = told .1 in
-      omega (arith, told .0, entries-bound 16 p _ (nameRow p) (u32At p (at + 12)) (at + 18) (h .rest) (h .found) .0, ap length (h .all))
+      omega (arith, told .0 .within, entries-bound 16 p _ (nameRow p) (u32At p (at + 12)) (at + 18) (h .rest) (h .found) .0, ap length (h .all))
 
   arguments-count : arguments p at size ≡ good rs → 2 * length rs ≤ size
   arguments-count e =
       let told = arguments-good p at size rs e in
       let h = told .1 in
-      omega (arith, told .0, pairs-bound p _ (u32At p (at + 16)) (at + 20) (h .rest) (h .found) .0, ap length (h .all))
+      omega (arith, told .0 .within, pairs-bound p _ (u32At p (at + 16)) (at + 20) (h .rest) (h .found) .0, ap length (h .all))
 
   pub body-count : (kind : ℕ) → 8 ≤ size → body kind p at size ≡ good rs → 2 * length rs ≤ size
   unfolding body

@@ -111,11 +111,11 @@ module _ (p : List ℕ) (bytes : (k : ℕ) → getD p k 0 < 256) (small : length
     unfolding body
     body-placed zero k h rs e =
         let told = contents-good p at size rs e in
-        stored-placed (u16At p (at + 14)) (told .0) rs (told .1)
+        stored-placed (u16At p (at + 14)) (told .0 .within) rs (told .1)
     body-placed (suc zero) k h rs e =
         let told = names-good p at size rs e in
         let end : ℕ = at + 18 + u16At p (at + 16) in
-        let inside : end ≤ length p = omega (arith, told .0) in
+        let inside : end ≤ length p = omega (arith, told .0 .within) in
         rw (told .1 .all) (
           tt,
           fits 2 0 0 0 0 0 (omega arith) (omega arith) (omega arith) (omega arith) (omega arith) (omega arith),
@@ -124,7 +124,7 @@ module _ (p : List ℕ) (bytes : (k : ℕ) → getD p k 0 < 256) (small : length
     body-placed (suc (suc zero)) k h rs e =
         let told = arguments-good p at size rs e in
         let end : ℕ = at + 20 + u32At p (at + 12) in
-        let inside : end ≤ length p = omega (arith, told .0) in
+        let inside : end ≤ length p = omega (arith, told .0 .within) in
         rw (told .1 .all) (
           tt,
           fits 3 0 0 0 0 0 (omega arith) (omega arith) (omega arith) (omega arith) (omega arith) (omega arith),

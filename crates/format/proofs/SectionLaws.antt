@@ -1,20 +1,20 @@
--- What a section of each kind, a run of sections and a payload say where they are good: where their parts end, and whose rows theirs are.
+-- What a section of each kind, a run of sections and a payload say where they are good: where their parts end, and whose rows theirs are. And a
+-- section is good where all of that holds.
 -- Assumes nothing.
 use Prim.Native.Nat.{ℕ, zero, suc, _+_, _≤_}
 use mathlib.Core.List.{List, [], _∷_, _++_}
-use mathlib.Core.Path.{_≡_}
+use mathlib.Core.Path.{_≡_, refl}
 use native.Mathlib.Omega.{arith}
-use borrow.Author.Tests.{leb-true, eqb-true}
+use borrow.Author.Tests.{leb-true, eqb-true, le-leb, eq-eqb}
 use lib.ListN.{length}
 use Rattle.wire.specs.Number.{u16At, u32At}
-use Rattle.wire.proofs.PaddingLaws.{le-aligned}
 use Rattle.layout.specs.Checked.{Checked, good, then}
 use Rattle.format.specs.Encoding.{limit}
 use Rattle.layout.specs.Rows.{row}
 use Rattle.layout.specs.declared.row.Row.{Row}
-use Rattle.format.specs.Parse.{entries, pairs, framed, nameRow, contentRow, arguments, names, stored, contents, body, sections, parse}
-use Rattle.format.proofs.EntryLaws.{frame-good, framed-good}
-use Rattle.layout.proofs.Checked.{check-good, then-good}
+use Rattle.format.specs.Parse.{entries, pairs, nameRow, contentRow, arguments, names, stored, contents, body, sections, parse}
+use Rattle.format.proofs.FrameLaws.{Frame, frame-good, Framed, framed-good, framed-found}
+use Rattle.layout.proofs.Checked.{check-good, then-good, check-passes, then-passes}
 
 -- a section's rows: its own, and then those of what it holds
 pub record Headed (head : Row) (held : Checked (List Row)) (rs : List Row) : Type 0 where
@@ -32,62 +32,118 @@ headed head held rs e =
       all = cc;
     }
 
--- the headers and the stored bytes of a good frame are within its size
-framed-within : (p : List ℕ) (at size headers bytes : ℕ) → framed p at size headers bytes ≡ good tt → headers + bytes ≤ size
-framed-within p at size headers bytes e = omega (arith, framed-good p at size headers bytes e, le-aligned (headers + bytes))
-
 module _ (p : List ℕ) (at : ℕ) where
   -- ---- contents
 
-  pub contents-good :
-      (size : ℕ) (rs : List Row) →
-      contents p at size ≡ good rs →
-      (28 + u32At p (at + 16) ≤ size) × (stored (u16At p (at + 14)) p at (u32At p (at + 16)) ≡ good rs)
-  unfolding contents
-  contents-good size rs e =
-      let long = check-good _ _ _ _ e in
-      let no-flags = check-good _ _ _ _ (long .1) in
-      let known = check-good _ _ _ _ (no-flags .1) in
-      let frame = then-good _ _ _ (known .1) in
-      (framed-within p at size 28 (u32At p (at + 16)) (frame .1), frame .2)
+  module _ (size : ℕ) (rs : List Row) where
+    pub contents-good :
+        contents p at size ≡ good rs →
+        Framed p at size 28 (u32At p (at + 16))
+        × (stored (u16At p (at + 14)) p at (u32At p (at + 16)) ≡ good rs)
+        × (u16At p (at + 12) ≡ 0)
+        × (u16At p (at + 14) ≤ 1)
+    unfolding contents
+    contents-good e =
+        let long = check-good _ _ _ _ e in
+        let no-flags = check-good _ _ _ _ (long .1) in
+        let known = check-good _ _ _ _ (no-flags .1) in
+        let (done, frame, found) = then-good _ _ _ (known .1) in
+        (framed-good p at size 28 (u32At p (at + 16)) frame, found, eqb-true _ _ (no-flags .0), leb-true _ _ (known .0))
+
+    pub contents-found :
+        Framed p at size 28 (u32At p (at + 16)) →
+        u16At p (at + 12) ≡ 0 →
+        u16At p (at + 14) ≤ 1 →
+        stored (u16At p (at + 14)) p at (u32At p (at + 16)) ≡ good rs →
+        contents p at size ≡ good rs
+    unfolding contents
+    contents-found frame flags known found =
+        check-passes _ _ _ (le-leb 28 size (omega (arith, frame .within)))
+        (check-passes _ _ _ (eq-eqb (u16At p (at + 12)) 0 flags)
+        (check-passes _ _ _ (le-leb (u16At p (at + 14)) 1 known) (then-passes _ _ (framed-found p at size 28 _ frame) found)))
 
   abbrev pub plainEntries : Checked (List Row)
   plainEntries = entries 12 contentRow (u32At p (at + 24)) p (at + 28) (at + 28 + u32At p (at + 16))
 
+  pub plain-equal : (rs : List Row) → stored zero p at (u32At p (at + 16)) ≡ good rs → u32At p (at + 20) ≡ u32At p (at + 16)
+  unfolding stored
+  plain-equal rs e = eqb-true _ _ (check-good _ _ _ _ e .0)
+
   pub plain-good : (rs : List Row) → stored zero p at (u32At p (at + 16)) ≡ good rs → Headed (row 0 0 (u32At p (at + 8)) 0 0 0 0) plainEntries rs
   unfolding stored
   plain-good rs e = headed (row 0 0 (u32At p (at + 8)) 0 0 0 0) plainEntries rs (check-good _ _ _ _ e .1)
+
+  pub plain-found :
+      {rest : List Row} →
+      u32At p (at + 20) ≡ u32At p (at + 16) →
+      plainEntries ≡ good rest →
+      stored zero p at (u32At p (at + 16)) ≡ good (row 0 0 (u32At p (at + 8)) 0 0 0 0 ∷ rest)
+  unfolding stored
+  plain-found equal found = check-passes _ _ _ (eq-eqb (u32At p (at + 20)) (u32At p (at + 16)) equal) (then-passes _ _ found refl)
 
   -- ---- names
 
   abbrev pub nameEntries : Checked (List Row)
   nameEntries = entries 16 (nameRow p) (u32At p (at + 12)) p (at + 18) (at + 18 + u16At p (at + 16))
 
-  pub names-good : (size : ℕ) (rs : List Row) → names p at size ≡ good rs → (18 + u16At p (at + 16) ≤ size) × Headed (row 2 0 0 0 0 0 0) nameEntries rs
-  unfolding names
-  names-good size rs e =
-      let long = check-good _ _ _ _ e in
-      let no-flags = check-good _ _ _ _ (long .1) in
-      let frame = then-good _ _ _ (no-flags .1) in
-      (framed-within p at size 18 (u16At p (at + 16)) (frame .1), headed (row 2 0 0 0 0 0 0) nameEntries rs (frame .2))
+  module _ (size : ℕ) where
+    pub names-good :
+        (rs : List Row) →
+        names p at size ≡ good rs →
+        Framed p at size 18 (u16At p (at + 16)) × Headed (row 2 0 0 0 0 0 0) nameEntries rs × (u32At p (at + 8) ≡ 0)
+    unfolding names
+    names-good rs e =
+        let long = check-good _ _ _ _ e in
+        let no-flags = check-good _ _ _ _ (long .1) in
+        let (done, frame, found) = then-good _ _ _ (no-flags .1) in
+        (framed-good p at size 18 (u16At p (at + 16)) frame, headed (row 2 0 0 0 0 0 0) nameEntries rs found, eqb-true _ _ (no-flags .0))
+
+    pub names-found :
+        {rest : List Row} →
+        Framed p at size 18 (u16At p (at + 16)) →
+        u32At p (at + 8) ≡ 0 →
+        nameEntries ≡ good rest →
+        names p at size ≡ good (row 2 0 0 0 0 0 0 ∷ rest)
+    unfolding names
+    names-found frame flags found =
+        check-passes _ _ _ (le-leb 18 size (omega (arith, frame .within)))
+        (check-passes _ _ _ (eq-eqb (u32At p (at + 8)) 0 flags)
+        (then-passes _ _ (framed-found p at size 18 _ frame) (then-passes _ _ found refl)))
 
   -- ---- arguments
 
   abbrev pub argumentPairs : Checked (List Row)
   argumentPairs = pairs (u32At p (at + 16)) p (at + 20) (at + 20 + u32At p (at + 12))
 
-  pub arguments-good : (size : ℕ) (rs : List Row) → arguments p at size ≡ good rs → (20 + u32At p (at + 12) ≤ size) × Headed (row 3 0 0 0 0 0 0) argumentPairs rs
-  unfolding arguments
-  arguments-good size rs e =
-      let long = check-good _ _ _ _ e in
-      let no-flags = check-good _ _ _ _ (long .1) in
-      let frame = then-good _ _ _ (no-flags .1) in
-      (framed-within p at size 20 (u32At p (at + 12)) (frame .1), headed (row 3 0 0 0 0 0 0) argumentPairs rs (frame .2))
+  module _ (size : ℕ) where
+    pub arguments-good :
+        (rs : List Row) →
+        arguments p at size ≡ good rs →
+        Framed p at size 20 (u32At p (at + 12)) × Headed (row 3 0 0 0 0 0 0) argumentPairs rs × (u32At p (at + 8) ≡ 0)
+    unfolding arguments
+    arguments-good rs e =
+        let long = check-good _ _ _ _ e in
+        let no-flags = check-good _ _ _ _ (long .1) in
+        let (done, frame, found) = then-good _ _ _ (no-flags .1) in
+        (framed-good p at size 20 (u32At p (at + 12)) frame, headed (row 3 0 0 0 0 0 0) argumentPairs rs found, eqb-true _ _ (no-flags .0))
+
+    pub arguments-found :
+        {rest : List Row} →
+        Framed p at size 20 (u32At p (at + 12)) →
+        u32At p (at + 8) ≡ 0 →
+        argumentPairs ≡ good rest →
+        arguments p at size ≡ good (row 3 0 0 0 0 0 0 ∷ rest)
+    unfolding arguments
+    arguments-found frame flags found =
+        check-passes _ _ _ (le-leb 20 size (omega (arith, frame .within)))
+        (check-passes _ _ _ (eq-eqb (u32At p (at + 8)) 0 flags)
+        (then-passes _ _ (framed-found p at size 20 _ frame) (then-passes _ _ found refl)))
 
 -- ---- sections
 
 -- the first of some sections, and those after it
 pub record Section (p : List ℕ) (at count : ℕ) (rs : List Row) : Type 0 where
+  pub frame : Frame p at (u32At p at)
   pub header : 8 ≤ u32At p at
   pub within : at + u32At p at ≤ length p
   pub first : List Row
@@ -101,12 +157,13 @@ unfolding sections
 sections-good p at count rs e =
     let framed = then-good _ _ _ e in
     let told = frame-good p at (framed .0) (framed .1) in
-    let this = then-good _ _ _ (rw (told .2) at (framed .2)) in
+    let this = then-good _ _ _ (rw (told .is) at (framed .2)) in
     let others = then-good _ _ _ (this .2) in
     let found = others .2 in
     record {
-      header = omega (arith, told .0, told .2);
-      within = omega (arith, told .1, told .2);
+      frame = rw (told .is) at told;
+      header = omega (arith, told .least, told .is);
+      within = omega (arith, told .within, told .is);
       first = this .0;
       first-good = this .1;
       rest = others .0;
@@ -124,7 +181,10 @@ sections-end p at rs e =
 
 -- ---- a payload
 
-pub parse-good : (p : List ℕ) (rs : List Row) → parse p ≡ good rs → (length p ≤ limit) × (sections (u16At p 6) p 8 ≡ good rs)
+pub parse-good :
+    (p : List ℕ) (rs : List Row) →
+    parse p ≡ good rs →
+    (length p ≤ limit) × (sections (u16At p 6) p 8 ≡ good rs) × (8 ≤ length p) × (u32At p 0 ≡ length p) × (u16At p 4 ≡ 0)
 unfolding parse
 parse-good p rs e =
     let within = check-good _ _ _ _ e in
@@ -132,4 +192,4 @@ parse-good p rs e =
     let whole = check-good _ _ _ _ (long .1) in
     let sized = check-good _ _ _ _ (whole .1) in
     let no-flags = check-good _ _ _ _ (sized .1) in
-    (leb-true (length p) limit (within .0), no-flags .1)
+    (leb-true (length p) limit (within .0), no-flags .1, leb-true 8 (length p) (long .0), eqb-true _ _ (sized .0), eqb-true _ _ (no-flags .0))

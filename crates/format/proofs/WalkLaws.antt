@@ -72,7 +72,7 @@ module _ (p : List ℕ) (at : ℕ) where
       let told = contents-good p at size rs e in
       let h = plain-good p at rs (rw plain at (told .1)) in
       let held = entries-walk p _ 12 contentRow (λ at. refl) (u32At p (at + 24)) (at + 28) (h .rest) (h .found) in
-      omega (arith, told .0, held .1)
+      omega (arith, told .0 .within, held .1)
 
   pub names-walk : (size : ℕ) (rs : List Row) → names p at size ≡ good rs → (rs ≡ walkSection p 1 at) × (entriesEnd p (u32At p (at + 12)) (at + 18) ≤ at + size)
   unfolding walkSection
@@ -80,7 +80,7 @@ module _ (p : List ℕ) (at : ℕ) where
       let told = names-good p at size rs e in
       let h = told .1 in
       let held = entries-walk p _ 16 (nameRow p) (λ at. refl) (u32At p (at + 12)) (at + 18) (h .rest) (h .found) in
-      (h .all ∙ ap (λ (l : List Row). row 2 0 0 0 0 0 0 ∷ l) (held .0), omega (arith, told .0, held .1))
+      (h .all ∙ ap (λ (l : List Row). row 2 0 0 0 0 0 0 ∷ l) (held .0), omega (arith, told .0 .within, held .1))
 
   pub arguments-walk : (size : ℕ) (rs : List Row) → arguments p at size ≡ good rs → (rs ≡ walkSection p 2 at) × (pairsEnd p (u32At p (at + 16)) (at + 20) ≤ at + size)
   unfolding walkSection
@@ -88,7 +88,7 @@ module _ (p : List ℕ) (at : ℕ) where
       let told = arguments-good p at size rs e in
       let h = told .1 in
       let held = pairs-walk p _ (u32At p (at + 16)) (at + 20) (h .rest) (h .found) in
-      (h .all ∙ ap (λ (l : List Row). row 3 0 0 0 0 0 0 ∷ l) (held .0), omega (arith, told .0, held .1))
+      (h .all ∙ ap (λ (l : List Row). row 3 0 0 0 0 0 0 ∷ l) (held .0), omega (arith, told .0 .within, held .1))
 
   pub body-walk : (kind : ℕ) (rs : List Row) → body kind p at (u32At p at) ≡ good rs → rs ≡ walkSection p kind at
   unfolding body walkSection

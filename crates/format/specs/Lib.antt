@@ -1,9 +1,11 @@
 -- Layout: what a payload says, and its bytes
 pub mod Sections
 pub mod Encoding
+pub mod WellFormed
 -- Rows: what they may hold, and what they say
 pub mod Rules
 pub mod Resolve
+pub mod Said
 -- The jobs and their refusals: reading, writing, listing
 pub mod Parse
 pub mod Read
@@ -18,5 +20,6 @@ pub mod PublicFacts
 pub mod Samples
 -- What follows from the definitions
 pub mod Promises
+pub mod RoundTrips
 -- How a second pass goes over a payload
 pub mod Walk

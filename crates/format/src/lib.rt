@@ -3,16 +3,19 @@
 //
 // specs/ in document 01's order:
 //
-//   Layout           Sections (what a payload says), Encoding (its bytes, and the limits)
-//   Rows             Rules (what a row may hold and follow), Resolve (what rows say)
+//   Layout           Sections (what a payload says), Encoding (its bytes, and the limits), WellFormed (what
+//                    sections must be)
+//   Rows             Rules (what a row may hold and follow), Resolve (the sections that rows say), Said (what one
+//                    row says, places apart)
 //   Refused calls    Parse (reading, fault by fault), Read, Write, Listing (the jobs with what they are
 //                    lent), Output (lent output, whichever job)
 //   Public copy      PublicCopy, PublicFacts
 //   Sample payloads  Samples (the starred ones), Display (the lines of a listing)
-//   what follows     Promises
+//   what follows     Promises (of each job by itself), RoundTrips (of reading and writing together)
 //
 // Walk is no part of the meaning: it says how a second pass goes over an accepted payload. Refusals, rows
 // and the text that a row names have code, and are defined in crate layout; numbers, padding and NULs in wire;
 // UTF-8 in utf8.
 //
-// Proved: each promise of specs/Promises.antt, and that the starred samples hold. Nothing is assumed.
+// Proved: each promise of specs/Promises.antt and specs/RoundTrips.antt, and that the starred samples hold. Nothing
+// is assumed.

@@ -3,7 +3,7 @@
 -- Assumes nothing.
 use Prim.Native.Nat.{ℕ}
 use mathlib.Core.Bool.{Bool, true, false}
-use mathlib.Core.Path.{_≡_, refl}
+use mathlib.Core.Path.{_≡_, refl, _∙_}
 use native.Mathlib.Omega.{arith}
 use Rattle.layout.specs.Checked.{Checked, fault, good, check, then, isGood}
 use Rattle.layout.specs.declared.refusal.Refusal.{Refusal}
@@ -15,6 +15,19 @@ after-fault c next e = rw e
 pub after-good : {A B : Type 0} (c : Checked A) (next : A → Checked B) {a : A} → c ≡ good a → then c next ≡ next a
 unfolding then
 after-good c next e = rw e
+
+pub check-passes :
+    {A : Type 0} (test : Bool) (refusal : Refusal) (next : Unit {0} → Checked A) {a : A} →
+    test ≡ true →
+    next tt ≡ good a →
+    check test refusal next ≡ good a
+unfolding check
+check-passes true refusal next e f = f
+check-passes false refusal next e f = let z : _≡_ {A = ℕ} 0 1 = cc in absurd (omega arith)
+
+pub then-passes :
+    {A B : Type 0} (c : Checked A) (next : A → Checked B) {a : A} {b : B} → c ≡ good a → next a ≡ good b → then c next ≡ good b
+then-passes c next e f = after-good c next e ∙ f
 
 pub check-good :
     {A : Type 0} (test : Bool) (refusal : Refusal) (next : Unit {0} → Checked A) (a : A) →

@@ -1,5 +1,5 @@
 -- What the laws of rows and of the encoding need of `flatMap`.
-use Prim.Native.Nat.{_%_}
+use Prim.Native.Nat.{_%_, _≤_}
 use native.Mathlib.Omega.{arith}
 use mathlib.Core.Path.{_≡_, refl, sym, ap, _∙_}
 use mathlib.Core.List.{List, [], _∷_, _++_, flatMap, append-assoc}
@@ -16,3 +16,9 @@ module _ {A B : Type 0} (f : A → List B) where
   unfolding flatMap
   flatMap-multiple h [] = refl
   flatMap-multiple h (x ∷ a) = rw length-append (omega (arith, h x, flatMap-multiple h a))
+
+  -- parts that are not empty are no more than what they make
+  pub flatMap-least : ((x : A) → 1 ≤ length (f x)) → (a : List A) → length a ≤ length (flatMap f a)
+  unfolding flatMap
+  flatMap-least h [] = omega arith
+  flatMap-least h (x ∷ a) = rw length-append (omega (arith, h x, flatMap-least h a))

@@ -1,9 +1,7 @@
 -- What the steps of the first pass answer: of a value that was found, only what the next step needs.
-use Prim.Native.Nat.{ℕ, _+_}
+use Prim.Native.Nat.{ℕ}
 use mathlib.Core.List.{List}
 use lib.ListN.{length}
-use Rattle.wire.specs.Length.{wireSize}
-use Rattle.wire.specs.Padding.{aligned}
 use Rattle.layout.specs.Checked.{Checked, fault, good}
 use Rattle.layout.specs.declared.row.Row.{Row}
 use Rattle.parse.specs.declared.outcome.MaybeText.{MaybeText}

@@ -2,7 +2,7 @@
 -- Assumes nothing.
 use mathlib.Core.Bool.{Bool, true, false}
 use mathlib.Core.Path.{_≡_, refl, sym, ap, _∙_}
-use mathlib.Core.List.{List, [], _∷_}
+use mathlib.Core.List.{List, [], _∷_, _++_}
 use Prim.Native.Nat.{ℕ, zero, suc, _+_, _≤_, _<_}
 use native.Mathlib.Nat.{add-zero}
 use native.Mathlib.Numerals.{add-one}
@@ -55,6 +55,21 @@ until-in-prefix s n h = go (ltb (untilNul s) n) refl
         let k : ℕ = untilNul (take n s) in
         let inside : k < n = omega (arith, length-take n s) in
         absurd (until-before s k (omega (arith, ltb-false (untilNul s) n e)) (sym (getD-take n s k 0 inside) ∙ until-at (take n s) h))
+
+-- a prefix that ends at the first NUL or before has none
+pub until-take : (s : List ℕ) (n : ℕ) → n ≤ untilNul s → untilNul (take n s) ≡ length (take n s)
+unfolding untilNul
+until-take s zero h = refl
+until-take [] (suc n) h = refl
+until-take (zero ∷ s) (suc n) h = absurd (omega arith)
+until-take (suc b ∷ s) (suc n) h = over b (take n s) ∙ ap suc (until-take s n (omega (arith, over b s)))
+
+-- a text without a NUL ends at the one that follows it
+pub until-closed : (text after : List ℕ) → length text ≤ untilNul text → untilNul (text ++ 0 ∷ after) ≡ length text
+unfolding untilNul
+until-closed [] after h = refl
+until-closed (zero ∷ text) after h = absurd (omega arith)
+until-closed (suc b ∷ text) after h = over b (text ++ 0 ∷ after) ∙ ap suc (until-closed text after (omega (arith, over b text)))
 
 -- ---- from a place on
 

@@ -10,7 +10,6 @@ use denote.Ref.{now}
 use lib.Dec.{leb, eqb}
 use lib.ListN.{length}
 use Rattle.wire.specs.Number.{u32At}
-use Rattle.wire.proofs.PaddingLaws.{le-aligned}
 use Rattle.layout.specs.Checked.{Checked, good, check, then}
 use Rattle.format.specs.Encoding.{limit}
 use Rattle.layout.specs.Rows.{row}
@@ -19,7 +18,7 @@ use Rattle.parse.specs.Outcome.{counted}
 use Rattle.format.specs.Parse.{framed, pairs, arguments}
 use Rattle.parse.specs.declared.outcome.Counted.the-variants.{Rows}
 use Rattle.parse.proofs.Count.{add, counted-more}
-use Rattle.format.proofs.EntryLaws.{framed-good}
+use Rattle.format.proofs.FrameLaws.{framed-good}
 use Rattle.parse.proofs.arguments.parse_arguments.Statement.{statement}
 use Rattle.layout.proofs.TextCheck.{passed, not-passed}
 use Rattle.parse.proofs.PairCount.{counted-bound}
@@ -94,7 +93,7 @@ within c =
     let b = c .before .before .before in
     let a = b .before .before .before .before .before .args in
     let bytes = u32At (now (a .payload)) (a .at + 12) in
-    omega (arith, b .read-u322 .ensures, framed-good (now (a .payload)) (a .at) (a .size) 20 bytes (whole c), le-aligned (20 + bytes))
+    omega (arith, b .read-u322 .ensures, framed-good (now (a .payload)) (a .at) (a .size) 20 bytes (whole c) .within)
 
 add-start : tie.Need-add-start
 add-start c = search needs

@@ -7,7 +7,6 @@ use mathlib.Core.List.{List}
 use native.Mathlib.Omega.{arith}
 use borrow.Author.Needs.{needs}
 use denote.Ref.{now}
-use Rattle.wire.proofs.PaddingLaws.{le-aligned}
 use Rattle.wire.specs.Number.{u16At, u32At}
 use Rattle.layout.proofs.Checked.{after-fault, after-good}
 use Rattle.layout.proofs.Unknown.{known-number, number-below, unknown-number}
@@ -18,7 +17,7 @@ use Rattle.layout.specs.declared.text_check.Check.the-variants.{Passed}
 use Rattle.parse.specs.Outcome.{counted}
 use Rattle.format.specs.Parse.{contents, framed, stored}
 use Rattle.format.proofs.BodyTests.{contents-short, contents-flag, contents-unknown, contents-rest}
-use Rattle.format.proofs.EntryLaws.{framed-good}
+use Rattle.format.proofs.FrameLaws.{framed-good}
 use Rattle.parse.proofs.contents.parse_contents.Statement.{statement}
 use Rattle.layout.proofs.TextCheck.{passed, not-passed}
 use Rattle.parse.proofs.contents.parse_contents.Tie as tie
@@ -53,7 +52,7 @@ module _ (s : tie.After-check-framed) where
   fits : s .check-framed .result ≡ Passed → 28 + u32At payload (at + 16) ≤ size
   fits e =
       omega
-      (arith, framed-good payload at size 28 (u32At payload (at + 16)) (passed _ (framed-is ∙ e)), le-aligned (28 + u32At payload (at + 16)))
+      (arith, framed-good payload at size 28 (u32At payload (at + 16)) (passed _ (framed-is ∙ e)) .within)
 
 returns : tie.Need-returns
 returns c =

@@ -7,7 +7,6 @@ use mathlib.Core.Path.{_≡_, ap, ap₂, sym, _∙_}
 use native.Mathlib.Omega.{arith}
 use borrow.Author.Needs.{needs}
 use denote.Ref.{now}
-use Rattle.wire.proofs.PaddingLaws.{le-aligned}
 use Rattle.wire.specs.Number.{u16At, u32At}
 use Rattle.layout.proofs.Checked.{after-fault, after-good}
 use Rattle.layout.specs.Checked.{good, then}
@@ -18,7 +17,8 @@ use Rattle.parse.specs.Outcome.{counted}
 use Rattle.format.specs.Parse.{names, framed, entries, nameRow, contentRow}
 use Rattle.format.proofs.BodyTests.{names-short, names-flag, names-rest}
 use Rattle.parse.proofs.Count.{add, counted-more}
-use Rattle.format.proofs.EntryLaws.{entries-bound, framed-good}
+use Rattle.format.proofs.EntryLaws.{entries-bound}
+use Rattle.format.proofs.FrameLaws.{framed-good}
 use Rattle.parse.proofs.Outcomes.{rows-counted}
 use Rattle.parse.proofs.names.parse_names.Statement.{statement}
 use Rattle.parse.proofs.EntryCount.{entries-rows}
@@ -49,7 +49,7 @@ module _ (s : tie.After-check-framed) where
   fits : s .check-framed .result ≡ Passed → 18 + u16At payload (at + 16) ≤ size
   fits e =
       omega
-      (arith, framed-good payload at size 18 (u16At payload (at + 16)) (passed _ (framed-is ∙ e)), le-aligned (18 + u16At payload (at + 16)))
+      (arith, framed-good payload at size 18 (u16At payload (at + 16)) (passed _ (framed-is ∙ e)) .within)
 
 -- and past the frame the definition counts one row more than the entries
 whole : (e : tie.After-check-entries) → (let s = e .before .before .before .before in counted (names (payload s) (at s) (size s)) ≡ add 1 (e .check-entries .result))

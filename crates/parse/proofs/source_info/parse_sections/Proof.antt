@@ -16,7 +16,7 @@ use Rattle.parse.specs.Outcome.{counted}
 use Rattle.format.specs.Parse.{frame, body, sections}
 use Rattle.parse.specs.declared.outcome.Counted.the-variants.{Rows}
 use Rattle.parse.proofs.Count.{add, add-none, add-add}
-use Rattle.format.proofs.EntryLaws.{frame-good}
+use Rattle.format.proofs.FrameLaws.{frame-good}
 use Rattle.parse.proofs.Outcomes.{place-found, place-refused, rows-counted, rows-refused}
 use Rattle.format.proofs.RowCount.{body-count}
 use Rattle.format.proofs.SectionTests.{sections-end, sections-left, sections-unframed, sections-refused}
@@ -66,8 +66,8 @@ framed c =
     let f = c .before .before in
     let i = f .before in
     let (size, is, ends) = place-found (λ (n : ℕ). at i + n) _ _ (sym (f .check-frame .ensures) ∙ c .next .given .1) in
-    let (least, within, same) = frame-good (payload i) (at i) size is in
-    record { size = size; frame-is = is; ends = ends; least = least; within = omega arith }
+    let told = frame-good (payload i) (at i) size is in
+    record { size = size; frame-is = is; ends = ends; least = told .least; within = omega (arith, told .within) }
 
 -- the size that was handed to the section's check is the section's
 body-is : (c : tie.After-parse-section Inv-loop μ-loop) → (let n = c .before .before in let i = n .before .before .before in counted (body (u16At (payload i) (at i + 6)) (payload i) (at i) (framed n .size)) ≡ c .parse-section .result)
