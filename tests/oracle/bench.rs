@@ -1,55 +1,109 @@
-//! Times `srci_read` against `parse_srci`, and prints a table in Markdown.
+//! Times `srci_read` against `parse_srci` and `srci_write` against `write_payload`, and how the time of writing
+//! grows, and prints three tables in Markdown.
 //!
 //! Both get the same payload, which is in memory. `srci_read` fills a table that is large enough and
 //! that was written before. `parse_srci` allocates what it makes; freeing it is not counted. It also
 //! writes the payload anew, since its result holds that too.
+//!
+//! Both write the same sections: `srci_write` to an output that is just long enough and that was written
+//! before, `write_payload` to what it allocates.
 use crate::boundaries::LIMIT;
-use crate::call::{read, UNTOUCHED};
+use crate::call::{read, write, UNTOUCHED, UNTOUCHED_BYTE};
+use crate::compare::WIDTH;
 use crate::payloads::{arguments, contents, names, payload};
 use crate::rust_rows::rows_of;
+use crate::rust_write::document;
 use chunks::srci::parse_srci;
+use chunks::ChunkWriter;
 use std::hint::black_box;
 use std::time::{Duration, Instant};
 
 const RUNS: usize = 7;
 
-pub fn run() {
-    println!("| input | bytes | rows | Rust ms | here ms | here / Rust |");
-    println!("|---|--:|--:|--:|--:|--:|");
-    row("one content, ASCII", || {
-        payload(&[contents(0, &[vec![b'a'; LIMIT - 49]])])
-    });
-    row("one content, CJK", || {
-        payload(&[contents(0, &["漢".repeat(LIMIT / 3 - 17).into_bytes()])])
-    });
-    row("25,800 contents of 1,000 bytes", || {
-        payload(&[contents(0, &vec![vec![b'a'; 1_000]; 25_800])])
-    });
-    row("600,000 pairs of 20 and 20 bytes", || {
-        payload(&[arguments(&vec![(vec![b'n'; 20], vec![b'v'; 20]); 600_000])])
-    });
-    row("12,000,000 empty pairs", || {
-        payload(&[arguments(&vec![(vec![], vec![]); 12_000_000])])
-    });
-    row("65,535 empty names sections", || {
-        payload(&vec![names(&[]); 65_535])
-    });
-    row("400,000 names of 40 bytes", || {
+/// A payload at a part of the limit: all of it, a quarter, a sixteenth.
+type Input = (&'static str, fn(usize) -> Vec<u8>);
+
+const PARTS: [usize; 3] = [16, 4, 1];
+
+const INPUTS: [Input; 8] = [
+    ("one content, ASCII", |part| {
+        payload(&[contents(0, &[vec![b'a'; LIMIT / part - 49]])])
+    }),
+    ("one content, CJK", |part| {
+        payload(&[contents(0, &["漢".repeat(LIMIT / part / 3 - 17).into_bytes()])])
+    }),
+    ("one content, mixed", |part| {
+        let piece = "float4 main() // é 漢字 \u{1F600}\n";
+        let count = (LIMIT / part - 49) / piece.len();
+        payload(&[contents(0, &[piece.repeat(count).into_bytes()])])
+    }),
+    ("25,800 contents of 1,000 bytes", |part| {
+        payload(&[contents(0, &vec![vec![b'a'; 1_000]; 25_800 / part])])
+    }),
+    ("600,000 pairs of 20 and 20 bytes", |part| {
+        payload(&[arguments(&vec![
+            (vec![b'n'; 20], vec![b'v'; 20]);
+            600_000 / part
+        ])])
+    }),
+    ("12,000,000 empty pairs", |part| {
+        payload(&[arguments(&vec![(vec![], vec![]); 12_000_000 / part])])
+    }),
+    ("65,535 empty names sections", |part| {
+        payload(&vec![names(&[]); 65_535 / part])
+    }),
+    ("400,000 names of 40 bytes", |part| {
         // 1,000 names take 60,000 of the 65,535 bytes that a section's entries may have
-        payload(&vec![names(&vec![(vec![b'n'; 40], 1); 1_000]); 400])
-    });
+        payload(&vec![names(&vec![(vec![b'n'; 40], 1); 1_000]); 400 / part])
+    }),
+];
+
+pub fn run() {
+    table("reading", read_row);
+    table("writing", write_row);
+    growth();
 }
 
-fn row(input: &str, make: impl Fn() -> Vec<u8>) {
-    let payload = make();
-    assert!(payload.len() <= LIMIT);
-    let expected = match parse_srci(&payload) {
-        Some(parsed) => rows_of(&payload, &parsed),
+/// Nanoseconds for each byte of the payload that is written, at each part of the limit.
+fn growth() {
+    println!("| writing, ns a byte | a sixteenth | a quarter | all |");
+    println!("|---|--:|--:|--:|");
+    for (input, make) in INPUTS {
+        let times = PARTS.map(|part| {
+            let payload = make(part);
+            let rows = read(&payload, &mut []).second as usize;
+            let mut table = vec![UNTOUCHED; WIDTH * rows];
+            read(&payload, &mut table);
+            let mut output = vec![UNTOUCHED_BYTE; payload.len()];
+            let here = best(|| {
+                let start = Instant::now();
+                black_box(write(&payload, &[], black_box(&table), &mut output));
+                start.elapsed()
+            });
+            format!("{:.3}", here.as_secs_f64() * 1e9 / payload.len() as f64)
+        });
+        println!("| {input} | {} |", times.join(" | "));
+    }
+}
+
+fn table(job: &str, row: fn(&str, &[u8])) {
+    println!("| {job} | bytes | rows | Rust ms | here ms | here / Rust |");
+    println!("|---|--:|--:|--:|--:|--:|");
+    for (input, make) in INPUTS {
+        let payload = make(1);
+        assert!(payload.len() <= LIMIT);
+        row(input, &payload);
+    }
+}
+
+fn read_row(input: &str, payload: &[u8]) {
+    let expected = match parse_srci(payload) {
+        Some(parsed) => rows_of(payload, &parsed),
         None => panic!("{input}: the Rust refuses it"),
     };
-    let rows = expected.len() / 7;
+    let rows = expected.len() / WIDTH;
     let mut table = vec![UNTOUCHED; expected.len()];
-    let answer = read(&payload, &mut table);
+    let answer = read(payload, &mut table);
     assert!(
         answer.number == 0 && answer.second as usize == rows && table == expected,
         "{input}"
@@ -57,16 +111,52 @@ fn row(input: &str, make: impl Fn() -> Vec<u8>) {
     drop(expected);
     let rust = best(|| {
         let start = Instant::now();
-        let parsed = black_box(parse_srci(black_box(&payload)));
+        let parsed = black_box(parse_srci(black_box(payload)));
         let took = start.elapsed();
         drop(parsed);
         took
     });
     let here = best(|| {
         let start = Instant::now();
-        black_box(read(black_box(&payload), &mut table));
+        black_box(read(black_box(payload), &mut table));
         start.elapsed()
     });
+    print_row(input, payload, rows, rust, here);
+}
+
+/// The rows are those that reading gives. The Rust's document keeps no original, so it is really written.
+fn write_row(input: &str, payload: &[u8]) {
+    let rows = read(payload, &mut []).second as usize;
+    let mut table = vec![UNTOUCHED; WIDTH * rows];
+    assert_eq!(read(payload, &mut table).number, 0, "{input}");
+    let document = document(parse_srci(payload).unwrap().sections);
+    let mut output = vec![UNTOUCHED_BYTE; payload.len()];
+    let answer = write(payload, &[], &table, &mut output);
+    assert!(
+        answer.number == 0 && output == payload && document.write_payload() == payload,
+        "{input}"
+    );
+    let rust = best(|| {
+        let start = Instant::now();
+        let written = black_box(black_box(&document).write_payload());
+        let took = start.elapsed();
+        drop(written);
+        took
+    });
+    let here = best(|| {
+        let start = Instant::now();
+        black_box(write(
+            black_box(payload),
+            &[],
+            black_box(&table),
+            &mut output,
+        ));
+        start.elapsed()
+    });
+    print_row(input, payload, rows, rust, here);
+}
+
+fn print_row(input: &str, payload: &[u8], rows: usize, rust: Duration, here: Duration) {
     println!(
         "| {input} | {} | {rows} | {:.2} | {:.2} | {:.2} |",
         payload.len(),

@@ -1,4 +1,4 @@
-//! Calls of `srci_read`, the C entry point of reading.
+//! Calls of `srci_read` and `srci_write`, the C entry points.
 
 #[link(name = "srci", kind = "static")]
 extern "C" {
@@ -8,6 +8,18 @@ extern "C" {
         payload_length: usize,
         rows: *mut u32,
         rows_length: usize,
+        second: *mut u32,
+    ) -> u32;
+
+    fn srci_write(
+        payload: *const u8,
+        payload_length: usize,
+        edit: *const u8,
+        edit_length: usize,
+        rows: *const u32,
+        rows_length: usize,
+        output: *mut u8,
+        output_length: usize,
         second: *mut u32,
     ) -> u32;
 }
@@ -26,6 +38,25 @@ pub fn read(payload: &[u8], rows: &mut [u32]) -> Answer {
             payload.len(),
             rows.as_mut_ptr(),
             rows.len(),
+            &mut second,
+        )
+    };
+    Answer { number, second }
+}
+
+pub fn write(payload: &[u8], edit: &[u8], rows: &[u32], output: &mut [u8]) -> Answer {
+    let mut second = UNTOUCHED;
+    // SAFETY: each pointer and length is that of a slice, and srci_write has no `requires`.
+    let number = unsafe {
+        srci_write(
+            payload.as_ptr(),
+            payload.len(),
+            edit.as_ptr(),
+            edit.len(),
+            rows.as_ptr(),
+            rows.len(),
+            output.as_mut_ptr(),
+            output.len(),
             &mut second,
         )
     };
@@ -56,4 +87,37 @@ pub fn read_guarded(payload: &[u8], lent: usize) -> Result<(Answer, Vec<u32>), &
         return Err("a number beside the table was changed");
     }
     Ok((answer, table))
+}
+
+/// What every byte of an output, and of the canaries beside it, holds before a call.
+pub const UNTOUCHED_BYTE: u8 = 0xA5;
+
+/// Longer inputs are not compared with how they were before a call of writing.
+const COMPARED: usize = 1 << 26;
+
+/// Writes to an output of some length that has canaries on both sides. Gives the answer and the output
+/// afterwards, or says what else was changed.
+pub fn write_guarded(
+    payload: &[u8],
+    edit: &[u8],
+    rows: &[u32],
+    lent: usize,
+) -> Result<(Answer, Vec<u8>), &'static str> {
+    let is_compared = payload.len() + edit.len() + 4 * rows.len() <= COMPARED;
+    let before = is_compared.then(|| (payload.to_vec(), edit.to_vec(), rows.to_vec()));
+    let mut bytes = vec![UNTOUCHED_BYTE; CANARIES + lent + CANARIES];
+    let answer = write(payload, edit, rows, &mut bytes[CANARIES..CANARIES + lent]);
+    if before.is_some_and(|(p, e, r)| payload != p || edit != e || rows != r) {
+        return Err("the payload, the edit text or the rows were changed");
+    }
+    let after = bytes.split_off(CANARIES + lent);
+    let output = bytes.split_off(CANARIES);
+    if bytes
+        .iter()
+        .chain(&after)
+        .any(|&byte| byte != UNTOUCHED_BYTE)
+    {
+        return Err("a byte beside the output was changed");
+    }
+    Ok((answer, output))
 }

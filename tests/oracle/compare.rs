@@ -1,20 +1,36 @@
-//! Compares `srci_read` with the Rust, payload by payload and table by table.
-use crate::call::{read_guarded, UNTOUCHED};
+//! Compares `srci_read` with the Rust, payload by payload and table by table. What is accepted is written
+//! back from its rows.
+use crate::call::{read_guarded, write_guarded, UNTOUCHED};
+use crate::payloads::Random;
 use crate::rust_rows::{parse, Parsed};
 
 /// How many numbers make a row.
 pub const WIDTH: usize = 7;
 
-#[derive(Default)]
 pub struct Totals {
     payloads: u64,
     accepted: u64,
     panicked: u64,
     calls: u64,
     by_number: [u64; 17],
+    written_back: u64,
+    random: Random,
 }
 
 impl Totals {
+    /// The edit texts of writing back are random.
+    pub fn new(seed: u64) -> Self {
+        Totals {
+            payloads: 0,
+            accepted: 0,
+            panicked: 0,
+            calls: 0,
+            by_number: [0; 17],
+            written_back: 0,
+            random: Random::new(!seed),
+        }
+    }
+
     /// Compares on one payload, with a table for each case that its length makes.
     pub fn compare(&mut self, payload: &[u8]) {
         self.payloads += 1;
@@ -35,6 +51,7 @@ impl Totals {
                         self.expect(payload, lent, |number| number == 16, needed, &[]);
                     }
                 }
+                self.write_back(payload, &rows);
             }
             // 12 may come first where a later fault makes the Rust give None
             Parsed::Refused => self.refused(payload, |number| (1..=15).contains(&number)),
@@ -57,6 +74,25 @@ impl Totals {
     fn refused(&mut self, payload: &[u8], is_right: impl Fn(u32) -> bool) {
         for lent in [0, WIDTH, 10 * WIDTH + 1] {
             self.expect(payload, lent, &is_right, 0, &[]);
+        }
+    }
+
+    /// Writing a payload's rows gives the payload, whatever the edit text.
+    fn write_back(&mut self, payload: &[u8], rows: &[u32]) {
+        let length = 1 + self.random.below(40);
+        for edit in [vec![], self.random.bytes(length)] {
+            let (answer, output) = match write_guarded(payload, &edit, rows, payload.len()) {
+                Ok(written) => written,
+                Err(what) => fail(payload, rows.len(), what),
+            };
+            if answer.number != 0 || answer.second as usize != payload.len() || output != payload {
+                let what = format!(
+                    "written back: number {}, second number {}",
+                    answer.number, answer.second
+                );
+                fail(payload, rows.len(), &what);
+            }
+            self.written_back += 1;
         }
     }
 
@@ -109,6 +145,7 @@ impl Totals {
         for (number, calls) in self.by_number.iter().enumerate() {
             println!("  {number:2}: {calls}");
         }
+        println!("{} calls that write a payload back", self.written_back);
     }
 }
 

@@ -1,4 +1,4 @@
-//! The oracle: holds `srci_read` to the published Rust. run.sh builds it and says how to call it.
+//! The oracle: holds `srci_read` and `srci_write` to the published Rust. run.sh builds it and says how to call it.
 mod bench;
 mod boundaries;
 mod call;
@@ -6,25 +6,33 @@ mod compare;
 mod damage;
 mod payloads;
 mod rust_rows;
+mod rust_write;
+mod tables;
+mod write;
+mod write_boundaries;
 
 use compare::Totals;
 use damage::damage;
 use payloads::{any_payload, Random};
+use write::WriteTotals;
 
 fn main() {
     rust_rows::hush();
     let words: Vec<String> = std::env::args().skip(1).collect();
     match words.iter().map(String::as_str).collect::<Vec<_>>()[..] {
         ["bench"] => bench::run(),
-        [count, seed] => compare(number(count), number(seed)),
+        [count, seed] => {
+            compare_reading(number(count), number(seed));
+            compare_writing(number(count), number(seed));
+        }
         _ => usage(),
     }
 }
 
 /// Every boundary, then random payloads: a third well formed but for a text now and then, the others
 /// damaged in one to three places.
-fn compare(count: u64, seed: u64) {
-    let mut totals = Totals::default();
+fn compare_reading(count: u64, seed: u64) {
+    let mut totals = Totals::new(seed);
     boundaries::compare_all(&mut totals);
     let mut random = Random::new(seed);
     for _ in 0..count {
@@ -36,6 +44,16 @@ fn compare(count: u64, seed: u64) {
         }
         totals.compare(&payload);
     }
+    println!("reading");
+    totals.print();
+}
+
+/// Every boundary, then random tables.
+fn compare_writing(count: u64, seed: u64) {
+    let mut totals = WriteTotals::default();
+    write_boundaries::compare_all(&mut totals);
+    totals.compare_random(count, &mut Random::new(seed));
+    println!("writing");
     totals.print();
 }
 

@@ -23,7 +23,7 @@ impl Random {
     }
 
     /// A number such as a field may hold: mostly any, now and then the least or the greatest.
-    fn field(&mut self) -> u32 {
+    pub fn field(&mut self) -> u32 {
         match self.below(4) {
             0 => 0,
             1 => u32::MAX,
@@ -31,7 +31,7 @@ impl Random {
         }
     }
 
-    fn bytes(&mut self, count: usize) -> Vec<u8> {
+    pub fn bytes(&mut self, count: usize) -> Vec<u8> {
         (0..count).map(|_| self.next() as u8).collect()
     }
 }
@@ -145,7 +145,7 @@ pub fn set_length(payload: &mut [u8]) {
     }
 }
 
-const GOOD: [&[u8]; 16] = [
+pub const GOOD: [&[u8]; 16] = [
     b"a",
     b"ab",
     b"main",
@@ -164,7 +164,7 @@ const GOOD: [&[u8]; 16] = [
     b"\xF4\x8F\xBF\xBF",
 ];
 
-const BAD: [&[u8]; 14] = [
+pub const BAD: [&[u8]; 14] = [
     b"\x00",
     b"\x80",
     b"\xBF",

@@ -1,8 +1,8 @@
 #!/usr/bin/env bash
 # Builds the oracle from this folder, srci.rs and libsrci.a, and runs it.
 #
-#   tests/oracle/run.sh PATH_TO_SRCI_RS COUNT SEED          compare: every boundary, then COUNT random payloads
-#   tests/oracle/run.sh PATH_TO_SRCI_RS bench               time reading against parse_srci
+#   tests/oracle/run.sh PATH_TO_SRCI_RS COUNT SEED          compare reading, then writing: every boundary, then COUNT random payloads or tables
+#   tests/oracle/run.sh PATH_TO_SRCI_RS bench               time reading against parse_srci, and writing against write_payload
 #   tests/oracle/run.sh PATH_TO_SRCI_RS rows COUNT SEED     print calls with the answers that the Rust gives
 #
 # It needs rustc, and for the first two target/staticlib/libsrci.a, which `rt staticlib srci` makes.

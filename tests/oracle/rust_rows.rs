@@ -1,6 +1,6 @@
 //! What the Rust makes of a payload, as the rows of document 01.
 use chunks::srci::{parse_srci, SourceContentData, SourceInfo, SourceInfoSectionData};
-use std::panic::catch_unwind;
+use std::panic::{catch_unwind, UnwindSafe};
 use std::sync::atomic::{AtomicBool, Ordering};
 
 pub enum Parsed {
@@ -84,25 +84,30 @@ pub fn rows_of(payload: &[u8], parsed: &SourceInfo) -> Vec<u32> {
     rows
 }
 
-static PARSING: AtomicBool = AtomicBool::new(false);
+static CATCHING: AtomicBool = AtomicBool::new(false);
 
-/// Keeps the panics of `parse` from being printed. Every other panic still is.
+/// Keeps the panics that `catch` catches from being printed. Every other panic still is.
 pub fn hush() {
     let print = std::panic::take_hook();
     std::panic::set_hook(Box::new(move |info| {
-        if !PARSING.load(Ordering::Relaxed) {
+        if !CATCHING.load(Ordering::Relaxed) {
             print(info);
         }
     }));
 }
 
+/// What the Rust gives, or `None` where it panics.
+pub fn catch<T>(call: impl FnOnce() -> T + UnwindSafe) -> Option<T> {
+    CATCHING.store(true, Ordering::Relaxed);
+    let caught = catch_unwind(call);
+    CATCHING.store(false, Ordering::Relaxed);
+    caught.ok()
+}
+
 pub fn parse(payload: &[u8]) -> Parsed {
-    PARSING.store(true, Ordering::Relaxed);
-    let caught = catch_unwind(|| parse_srci(payload));
-    PARSING.store(false, Ordering::Relaxed);
-    match caught {
-        Ok(Some(parsed)) => Parsed::Rows(rows_of(payload, &parsed)),
-        Ok(None) => Parsed::Refused,
-        Err(_) => Parsed::Panicked,
+    match catch(|| parse_srci(payload)) {
+        Some(Some(parsed)) => Parsed::Rows(rows_of(payload, &parsed)),
+        Some(None) => Parsed::Refused,
+        None => Parsed::Panicked,
     }
 }

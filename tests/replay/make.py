@@ -2,20 +2,22 @@
 """Writes the calls and the expected answers of the program replay.
 
     tests/oracle/run.sh PATH_TO_SRCI_RS rows 300 1 > target/rows.tsv
-    tests/replay/make.py read VECTORS read tests/replay/samples.tsv read target/rows.tsv
+    tests/replay/make.py read READ read tests/replay/samples.tsv read target/rows.tsv write WRITE
 
-The arguments are jobs, each with a list of its calls. VECTORS is the list of an independent model of
-document 01; it is not in this repository.
+The arguments are jobs, each with a list of its calls. READ and WRITE are the lists of an independent model
+of document 01; they are not in this repository.
 
 A list has a call to a line, its fields parted by tabs; '-' is empty, bytes are hex, and lists have commas. A
 line that begins with '#' is passed over. Of reading: the payload, how many numbers are lent, the number,
-the second number, and the numbers of the stored rows.
+the second number, and the numbers of the stored rows. Of writing: the payload, the edit text, the table's
+numbers, how many bytes are lent, the number, the second number, and the stored bytes.
 """
 import pathlib
 import sys
 
 NUMBERS = 128  # the table of the program has so many numbers
-LONGEST = 4096  # and it takes payloads of so many bytes
+BYTES = 512  # and its output so many bytes
+LONGEST = 4096  # and it takes payloads and edit texts of so many bytes
 SIZE = 262144  # and a file of calls of so many bytes
 
 
@@ -30,7 +32,14 @@ def read(payload, lent, number, second, rows):
     return [lent, payload], [number, second, str(NUMBERS - len(stored)), *stored]
 
 
-JOBS = {"read": read}
+def write(payload, edit, rows, lent, number, second, stored):
+    stored = stored.replace("-", "")
+    assert int(lent) <= BYTES and len(listed(rows)) <= NUMBERS
+    assert len(payload) <= 2 * LONGEST and len(edit) <= 2 * LONGEST
+    return [lent, payload, edit, rows], [number, second, str(BYTES - len(stored) // 2), stored]
+
+
+JOBS = {"read": read, "write": write}
 
 
 def main(words):

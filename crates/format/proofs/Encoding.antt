@@ -1,16 +1,19 @@
--- How long each record of the layout is, and that entries, sections and payloads are multiples of 4.
+-- How long each record of the layout is, that entries, sections and payloads are multiples of 4, and what the limits ask.
 use Prim.Native.Nat.{ℕ, _+_, _%_, _≤_}
 use native.Mathlib.Nat.{add-assoc}
 use native.Mathlib.Omega.{arith}
+use mathlib.Core.Bool.{true, _&&_, and-eq-true-iff}
 use mathlib.Core.Path.{_≡_, refl}
 use mathlib.Core.List.{List, flatMap}
+use borrow.Author.Tests.{leb-true, le-leb}
+use lib.Dec.{leb}
 use lib.ListN.{length, length-append, length-replicate}
 use Rattle.wire.specs.Padding.{aligned}
 use Rattle.wire.specs.Length.{wireSize}
 use Rattle.wire.proofs.NumberLaws.{length-bytesOf}
 use Rattle.wire.proofs.PaddingLaws.{aligned-multiple}
 use Rattle.format.specs.Sections.{Name, Pair, Section, plain, packed, names, arguments, unknown}
-use Rattle.format.specs.Encoding.{padded, contentEntry, nameEntry, pairEntry, storedBytes, bodyHeader, encodeSection, encode}
+use Rattle.format.specs.Encoding.{padded, contentEntry, nameEntry, pairEntry, storedBytes, bodyHeader, encodeSection, encode, limit, allFit, fits}
 use Rattle.layout.proofs.Lists.{flatMap-multiple}
 
 -- brings the length of a record to one sum, its numerals added up
@@ -70,3 +73,16 @@ encode-multiple ss = omega (arith, length-encode ss, flatMap-multiple encodeSect
 
 pub encode-least : (ss : List Section) → 8 ≤ length (encode ss)
 encode-least ss = omega (arith, length-encode ss)
+
+-- ---- the limits
+
+pub fits-good : (ss : List Section) → fits ss ≡ true → (length ss ≤ 65535) × (allFit ss ≡ true) × (length (encode ss) ≤ limit)
+unfolding fits
+fits-good ss e =
+    let (short, small) = and-eq-true-iff (leb (length ss) 65535 && allFit ss) (leb (length (encode ss)) limit) .0 e in
+    let (few, all) = and-eq-true-iff (leb (length ss) 65535) (allFit ss) .0 short in
+    (leb-true (length ss) 65535 few, all, leb-true (length (encode ss)) limit small)
+
+pub fits-found : (ss : List Section) → length ss ≤ 65535 → allFit ss ≡ true → length (encode ss) ≤ limit → fits ss ≡ true
+unfolding fits
+fits-found ss few all small = rw (le-leb (length ss) 65535 few, all, le-leb (length (encode ss)) limit small)

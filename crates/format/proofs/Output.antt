@@ -1,15 +1,18 @@
--- A call keeps the length of the output that it was lent.
+-- A call keeps the length of the output that it was lent; and what it answers and leaves there.
 -- Assumes nothing.
-use Prim.Native.Nat.{ℕ}
+use Prim.Native.Nat.{ℕ, _≤_, _<_}
 use native.Mathlib.Omega.{arith}
 use mathlib.Core.Bool.{Bool, true, false, cond}
 use mathlib.Core.Path.{_≡_, refl}
 use mathlib.Core.List.{List, _++_}
-use borrow.Author.Tests.{leb-true}
+use borrow.Author.Tests.{leb-true, le-leb, lt-leb}
 use lib.Dec.{leb}
 use lib.ListN.{length, drop, length-append, length-drop}
 use Rattle.layout.specs.Checked.{Checked, fault, good}
-use Rattle.format.specs.Output.{stored}
+use Rattle.layout.specs.declared.refusal.Refusal.{Refusal}
+use Rattle.layout.specs.declared.refusal.Refusal.the-variants.{NoRoom}
+use Rattle.layout.specs.declared.refusal.Answer.the-variants.{Accepted, Refused}
+use Rattle.format.specs.Output.{answer, stored}
 
 pub stored-length : (c : Checked (List ℕ)) (output : List ℕ) → length (stored c output) ≡ length output
 unfolding stored
@@ -22,3 +25,20 @@ stored-length (good bytes) output = go (leb (length bytes) (length output)) refl
         length (cond fits (bytes ++ drop (length bytes) output) output) ≡ length output
     go true e = simp (length-append, length-drop) (omega (arith, leb-true))
     go false e = refl
+
+-- what a call answers and leaves, by what the job makes and by the room for it
+module _ (made : Checked (List ℕ)) (output : List ℕ) where
+  pub refused : {refusal : Refusal} → made ≡ fault refusal → (answer made (length output) ≡ Refused refusal) × (stored made output ≡ output)
+  unfolding answer stored
+  refused e = (rw e, rw e)
+
+  module _ {bytes : List ℕ} (e : made ≡ good bytes) where
+    pub no-room : length output < length bytes → (answer made (length output) ≡ Refused (NoRoom (length bytes))) × (stored made output ≡ output)
+    unfolding answer stored
+    no-room h = (rw (e, lt-leb (length bytes) (length output) h), rw (e, lt-leb (length bytes) (length output) h))
+
+    pub room :
+        length bytes ≤ length output →
+        (answer made (length output) ≡ Accepted (length bytes)) × (stored made output ≡ bytes ++ drop (length bytes) output)
+    unfolding answer stored
+    room h = (rw (e, le-leb (length bytes) (length output) h), rw (e, le-leb (length bytes) (length output) h))

@@ -5,7 +5,7 @@ use mathlib.Core.Bool.{true, and-eq-true-iff}
 use mathlib.Core.List.{List, [], _∷_, _++_, flatMap}
 use mathlib.Core.Path.{_≡_, refl, sym, _∙_}
 use native.Mathlib.Omega.{arith}
-use borrow.Author.Tests.{leb-true, le-leb, eq-eqb}
+use borrow.Author.Tests.{le-leb, eq-eqb}
 use lib.ListN.{length, length-append}
 use Rattle.wire.specs.Number.{u16At, u32At}
 use Rattle.wire.specs.Padding.{aligned}
@@ -16,7 +16,7 @@ use Rattle.format.specs.Parse.{sections, parse}
 use Rattle.format.specs.Sections.{Section}
 use Rattle.format.specs.WellFormed.{All, WellFormed}
 use Rattle.format.proofs.BodiesRead.{read-section}
-use Rattle.format.proofs.Encoding.{length-encode, encode-multiple, encode-least}
+use Rattle.format.proofs.Encoding.{fits-good, length-encode, encode-multiple, encode-least}
 use Rattle.format.proofs.FrameLaws.{frame-found}
 use Rattle.format.proofs.PlacedRows.{rowsFrom}
 use Rattle.format.proofs.SectionBytes.{filled, length-section}
@@ -43,17 +43,16 @@ read-sections p small (s ∷ ss) at (ok, oks) fit ends stand =
     then-passes _ _ (frame-found p at size frame) (then-passes _ _ found (then-passes _ _ rest (rw spans)))
 
 pub read-payload : (ss : List Section) → All WellFormed ss → fits ss ≡ true → parse (encode ss) ≡ good (rowsFrom 8 ss)
-unfolding parse fits
+unfolding parse
 read-payload ss ok fit =
-    let ((few, all-fit), within) = simp and-eq-true-iff at fit in
+    let (few, all-fit, small) = fits-good ss fit in
     let p : List ℕ = encode ss in
-    let small : length p ≤ limit = leb-true (length p) limit within in
     let size = length-encode ss in
     let bytes : List ℕ = flatMap encodeSection ss in
     let whole : Stands p 0 (u32 (8 + length bytes) ++ (u16 0 ++ (u16 (length ss) ++ bytes))) = unfold encode in stands-all (encode ss) in
     let (long, h₁) = stands-number p 4 0 4 (8 + length bytes) _ (omega arith) (omega arith) whole in
     let (flags, h₂) = stands-number p 2 4 6 0 _ (omega arith) (omega arith) h₁ in
-    let (many, h₃) = stands-number p 2 6 8 (length ss) _ (omega arith) (omega (arith, leb-true (length ss) 65535 few)) h₂ in
+    let (many, h₃) = stands-number p 2 6 8 (length ss) _ (omega arith) (omega (arith, few)) h₂ in
     check-passes _ _ _ (le-leb (length p) limit small)
     (check-passes _ _ _ (le-leb 8 (length p) (encode-least ss))
     (check-passes _ _ _ (eq-eqb (length p % 4) 0 (encode-multiple ss))

@@ -5,17 +5,16 @@ use mathlib.Core.Bool.{true, _&&_}
 use mathlib.Core.List.{List, [], _∷_, _++_, flatMap}
 use mathlib.Core.Path.{_≡_, refl, sym, ap, ap₂, _∙_}
 use native.Mathlib.Omega.{arith}
-use borrow.Author.Tests.{le-leb}
 use lib.ListN.{length, length-append}
 use Rattle.wire.specs.Number.{u16At, u32At}
 use Rattle.layout.specs.Checked.{good}
 use Rattle.layout.specs.declared.row.Row.{Row}
-use Rattle.format.specs.Encoding.{limit, encodeSection, encode, allFit, fits}
+use Rattle.format.specs.Encoding.{encodeSection, encode, allFit, fits}
 use Rattle.format.specs.Parse.{sections, parse}
 use Rattle.format.specs.Sections.{Section}
 use Rattle.format.specs.WellFormed.{Bytes, All, WellFormed}
 use Rattle.format.proofs.BodiesStand.{body-stands}
-use Rattle.format.proofs.Encoding.{length-encode}
+use Rattle.format.proofs.Encoding.{length-encode, fits-found}
 use Rattle.format.proofs.PlacedRows.{rowsFrom}
 use Rattle.format.proofs.SectionLaws.{sections-good, sections-end, parse-good}
 use Rattle.format.proofs.Stands.{Stands, stands-none, stands-join, stands-whole, number-below, number-stands}
@@ -62,7 +61,7 @@ pub record Payload (p : List ℕ) (rs : List Row) : Type 0 where
   pub rows : rs ≡ rowsFrom 8 sections
 
 pub payload-stands : (p : List ℕ) → Bytes p → (rs : List Row) → parse p ≡ good rs → Payload p rs
-unfolding encode fits
+unfolding encode
 payload-stands p bytes rs e =
     let (small, found, least, long, flags) = parse-good p rs e in
     let all = sections-stand p bytes (u16At p 6) 8 rs found in
@@ -77,7 +76,7 @@ payload-stands p bytes rs e =
     record {
       sections = ss;
       ok = all .ok;
-      fit = rw (le-leb (length ss) 65535 few, all .fit, whole, le-leb (length p) limit small);
+      fit = fits-found ss few (all .fit) (omega arith);
       is = is;
       rows = all .rows;
     }

@@ -17,7 +17,7 @@ use Rattle.layout.proofs.Checked.{after-good, check-good, then-good, check-pass
 use Rattle.format.specs.Promises.{AllPlaced}
 use Rattle.format.specs.Resolve.{resolve}
 use Rattle.format.specs.RoundTrips.{Fits, renamed, Renames, RenameIsWritten}
-use Rattle.format.specs.Rules.{tagRule, obeys, textsOf, checkTexts, checkRows, noTag}
+use Rattle.format.specs.Rules.{tagRule, obeys, textsOf, checkTexts, checkRow, checkRows, noTag}
 use Rattle.format.specs.Said.{Said, saidBy, said}
 use Rattle.format.specs.WellFormed.{All}
 use Rattle.format.specs.Write.{written}
@@ -49,16 +49,14 @@ module _ (p edit : List ℕ) (new : Row) (texts : checkTexts (textsOf (new .tag)
       ((previous : ℕ) → obeys p edit previous (getD rows i noRow) ≡ true → obeys p edit previous new ≡ true) →
       checkRows p edit previous rows ≡ good tt →
       checkRows p edit previous (set rows i new) ≡ good tt
-  unfolding checkRows
+  unfolding checkRows checkRow
   set-passes [] i previous tag same e = e
   set-passes (r ∷ rows) zero previous tag same e =
-      let obeyed = check-good _ _ _ _ e in
-      let (done, passed, rest) = then-good _ _ _ (obeyed .1) in
-      check-passes _ _ _ (same previous (obeyed .0)) (then-passes _ _ texts (rw (← tag) rest))
+      let (done, first, rest) = then-good _ _ _ e in
+      then-passes _ _ (check-passes _ _ _ (same previous (check-good _ _ _ _ first .0)) texts) (rw (← tag) rest)
   set-passes (r ∷ rows) (suc i) previous tag same e =
-      let obeyed = check-good _ _ _ _ e in
-      let (done, passed, rest) = then-good _ _ _ (obeyed .1) in
-      check-passes _ _ _ (obeyed .0) (then-passes _ _ passed (set-passes rows i (r .tag) tag same rest))
+      let (done, first, rest) = then-good _ _ _ e in
+      then-passes _ _ first (set-passes rows i (r .tag) tag same rest)
 
 -- ---- what is written
 

@@ -101,12 +101,12 @@ calls-write-back p edit table output rows bytes e h =
 -- ---- what was written
 
 -- the sections of rows that were written
-record Written (payload edit q : List ℕ) (rows : List Row) : Type 0 where
-  checked : checkRows payload edit noTag rows ≡ good tt
-  fit : fits (sectionsOf payload edit rows) ≡ true
-  is : encode (sectionsOf payload edit rows) ≡ q
+pub record Written (payload edit q : List ℕ) (rows : List Row) : Type 0 where
+  pub checked : checkRows payload edit noTag rows ≡ good tt
+  pub fit : fits (sectionsOf payload edit rows) ≡ true
+  pub is : encode (sectionsOf payload edit rows) ≡ q
 
-written-good : (payload edit q : List ℕ) (rows : List Row) → written payload edit rows ≡ good q → Written payload edit q rows
+pub written-good : (payload edit q : List ℕ) (rows : List Row) → written payload edit rows ≡ good q → Written payload edit q rows
 unfolding written resolve
 written-good payload edit q rows e =
     let (ss, resolved, after) = then-good _ _ _ e in

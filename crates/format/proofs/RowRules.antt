@@ -3,7 +3,7 @@
 use Prim.Native.Nat.{ℕ, zero, suc, _%_, _≤_}
 use mathlib.Core.Bool.{true, and-eq-true-iff}
 use mathlib.Core.List.{List, [], _∷_}
-use mathlib.Core.Path.{_≡_, refl}
+use mathlib.Core.Path.{_≡_, refl, sym, _∙_}
 use native.Mathlib.Decide.{ℕ-discrete}
 use native.Mathlib.Omega.{arith}
 use borrow.Author.Tests.{leb-true, eqb-true, ne-eqb}
@@ -14,8 +14,8 @@ use Rattle.layout.specs.TextCheck.{checkText}
 use Rattle.layout.specs.Texts.{sideOf, inside}
 use Rattle.layout.specs.declared.row.Row.{Row}
 use Rattle.layout.proofs.Checked.{check-good, then-good}
-use Rattle.format.specs.Resolve.{at}
-use Rattle.format.specs.Rules.{follows, tagRule, obeys, textsOf, checkTexts, checkRows}
+use Rattle.format.specs.Resolve.{at, begun}
+use Rattle.format.specs.Rules.{follows, tagRule, obeys, textsOf, checkTexts, checkRow, checkRows}
 use Rattle.format.specs.WellFormed.{Text}
 use Rattle.format.proofs.RowsByTag.{Every}
 use Rattle.format.proofs.TextsOk.{text-ok}
@@ -37,6 +37,15 @@ entryTag-high (suc (suc zero)) = omega arith
 entryTag-high (suc (suc (suc zero))) = omega arith
 entryTag-high (suc (suc (suc (suc zero)))) = omega arith
 entryTag-high (suc (suc (suc (suc (suc n))))) = omega arith
+
+-- and an entry's is its own
+pub own-entries : (t : ℕ) → 5 ≤ t → entryTag t ≡ t
+own-entries zero h = absurd (omega arith)
+own-entries (suc zero) h = absurd (omega arith)
+own-entries (suc (suc zero)) h = absurd (omega arith)
+own-entries (suc (suc (suc zero))) h = absurd (omega arith)
+own-entries (suc (suc (suc (suc zero)))) h = absurd (omega arith)
+own-entries (suc (suc (suc (suc (suc n))))) h = refl
 
 entry-after :
     (section own previous : ℕ) →
@@ -65,6 +74,24 @@ module _ (payload edit : List ℕ) where
   entry-follows previous r (suc zero) h = entry-after 2 6 previous refl refl ((simp and-eq-true-iff at h) .0 .0)
   entry-follows previous r (suc (suc zero)) h = entry-after 3 7 previous refl refl ((simp and-eq-true-iff at h) .0 .0 .0)
   entry-follows previous r (suc (suc (suc n))) h = let z : _≡_ {A = ℕ} 0 1 = cc in absurd (omega arith)
+
+  pub entry-own : (previous : ℕ) (r : Row) (t : ℕ) → r .tag ≡ t → 5 ≤ t → Ruled previous t r → entryTag previous ≡ r .tag
+  entry-own previous r zero q h rule = absurd (omega arith)
+  entry-own previous r (suc zero) q h rule = absurd (omega arith)
+  entry-own previous r (suc (suc zero)) q h rule = absurd (omega arith)
+  entry-own previous r (suc (suc (suc zero))) q h rule = absurd (omega arith)
+  entry-own previous r (suc (suc (suc (suc zero)))) q h rule = absurd (omega arith)
+  entry-own previous r (suc (suc (suc (suc (suc n))))) q h rule = entry-follows previous r n rule ∙ sym q
+
+  -- an entry's row begins no section
+  pub begins-none : (t : ℕ) → 5 ≤ t → (r : Row) (rows : List Row) → begun payload edit t r rows ≡ []
+  unfolding begun
+  begins-none zero h r rows = absurd (omega arith)
+  begins-none (suc zero) h r rows = absurd (omega arith)
+  begins-none (suc (suc zero)) h r rows = absurd (omega arith)
+  begins-none (suc (suc (suc zero))) h r rows = absurd (omega arith)
+  begins-none (suc (suc (suc (suc zero)))) h r rows = absurd (omega arith)
+  begins-none (suc (suc (suc (suc (suc n))))) h r rows = refl
 
   -- ---- a row by itself
 
@@ -131,12 +158,12 @@ module _ (payload edit : List ℕ) where
       (previous : ℕ) (r : Row) (rows : List Row) →
       checkRows payload edit previous (r ∷ rows) ≡ good tt →
       Ruled previous (r .tag) r × RowOk (r .tag) r × (checkRows payload edit (r .tag) rows ≡ good tt)
-  unfolding checkRows obeys
+  unfolding checkRows checkRow obeys
   first-ok previous r rows e =
-      let obeyed = check-good _ _ _ _ e in
-      let passed = then-good _ _ _ (obeyed .1) in
-      let rule = (simp and-eq-true-iff at (obeyed .0)) .1 in
-      (rule, is-ok previous r (r .tag) rule (passed .1), passed .2)
+      let (done, first, rest) = then-good _ _ _ e in
+      let (obeyed, passed) = check-good _ _ _ _ first in
+      let rule = (simp and-eq-true-iff at obeyed) .1 in
+      (rule, is-ok previous r (r .tag) rule passed, rest)
 
   pub rows-ok : (previous : ℕ) (rows : List Row) → checkRows payload edit previous rows ≡ good tt → Every RowOk rows
   rows-ok previous [] e = tt

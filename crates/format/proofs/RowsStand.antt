@@ -17,7 +17,7 @@ use Rattle.layout.specs.declared.row.Row.{Row}
 use Rattle.layout.proofs.Checked.{check-passes, then-passes}
 use Rattle.format.specs.Encoding.{u32, terminate, contentEntry, nameEntry, pairEntry, storedBytes, encodeSection}
 use Rattle.format.specs.Resolve.{leading, contentOf, nameOf, pairOf, begun, sectionsOf}
-use Rattle.format.specs.Rules.{follows, tagRule, obeys, textsOf, checkTexts, checkRows}
+use Rattle.format.specs.Rules.{follows, tagRule, obeys, textsOf, checkTexts, checkRow, checkRows}
 use Rattle.format.specs.Sections.{Name, Pair, Section, plain, packed, names, arguments, unknown}
 use Rattle.format.specs.WellFormed.{All, Text, NameOk, PairOk, WellFormed}
 use Rattle.format.proofs.Encoding.{length-contentEntry, length-nameEntry, length-pairEntry}
@@ -153,8 +153,8 @@ module _ (p edit : List ℕ) where
       Passes previous r →
       checkRows p edit (r .tag) rows ≡ good tt →
       checkRows p edit previous (r ∷ rows) ≡ good tt
-  unfolding checkRows
-  passes-first previous r rows (rule, texts) rest = check-passes _ _ _ rule (then-passes _ _ texts rest)
+  unfolding checkRows checkRow
+  passes-first previous r rows (rule, texts) rest = then-passes _ _ (check-passes _ _ _ rule texts) rest
 
   -- the row of an item that stands passes after its section's row, and after a row of its own tag
   abbrev Follows : {A : Type 0} → ℕ → ℕ → (A → List ℕ) → (ℕ → A → Row) → (A → Type 0) → Type 0

@@ -63,10 +63,15 @@ unfoldable pub checkTexts : List (List ℕ) → Checked (Unit {0})
 checkTexts [] = good tt
 checkTexts (text ∷ texts) = then (checkText text) (λ _. checkTexts texts)
 
--- rows in order, after a row of the previous tag: the first fault counts
+-- a row after a row of the previous tag: its rule, then its texts
+unfoldable pub checkRow : List ℕ → List ℕ → ℕ → Row → Checked (Unit {0})
+checkRow payload edit previous r =
+    check (obeys payload edit previous r) BadRow (λ _.
+    checkTexts (textsOf (r .tag) (sideOf (r .side) payload edit) r))
+
+-- rows in order, the first after a row of the previous tag: the first fault counts
 unfoldable pub checkRows : List ℕ → List ℕ → ℕ → List Row → Checked (Unit {0})
 checkRows payload edit previous [] = good tt
 checkRows payload edit previous (r ∷ rows) =
-    check (obeys payload edit previous r) BadRow (λ _.
-    then (checkTexts (textsOf (r .tag) (sideOf (r .side) payload edit) r)) (λ _.
-    checkRows payload edit (r .tag) rows))
+    then (checkRow payload edit previous r) (λ _.
+    checkRows payload edit (r .tag) rows)

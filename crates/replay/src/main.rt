@@ -1,10 +1,14 @@
 // Replays the calls that data/calls.txt holds, of every job, and prints what each answers.
 //
-// A line of data/calls.txt is a call: its job, and then what the job is given, parted by spaces. Of reading:
-// how many numbers are lent, and the payload in hexadecimal digits. A line of the output is the answer: the
-// number, the second number, how many numbers of the table were left as they were, and the numbers of the
-// stored rows. The table has 128 numbers, of which a call is lent the first ones, so that a store past those
-// would show.
+// A line of data/calls.txt is a call: its job, and then what the job is given, parted by spaces, with bytes in
+// hexadecimal digits. A line of the output is the answer: the number, the second number, and what is said here.
+// - `read LENT PAYLOAD`: how many numbers are lent, and the payload. Answered: how many numbers of the table
+//   were left as they were, and the numbers of the stored rows.
+// - `write LENT PAYLOAD EDIT ROWS`: how many bytes are lent, the payload, the edit text, and the numbers of
+//   the rows with commas between; `-` is none. Answered: how many bytes of the output were left as they were,
+//   and the stored bytes.
+// The table has 128 numbers and the output 512 bytes, of which a call is lent the first ones, so that a store
+// past those would show.
 //
 // No expected line was made by this library. tests/replay/make.py wrote data/calls.txt and stdout from lists
 // of calls with their answers. Of reading:
@@ -12,6 +16,8 @@
 // - document 01's samples of reading (tests/replay/samples.tsv);
 // - 300 calls whose rows the published Rust gave (tests/oracle/rows.rs), each payload with a table that is
 //   exactly full, one that is longer, and one that is a number short.
+// Of writing: 175 calls worked out by that model, 75 that are accepted and 25 for each of the refusals 11, 12,
+// 17 and 19.
 ghost use Prim.Native.Nat.{_≤_};
 ghost use lib.ListN.{length};
 use layout::Answer;
@@ -20,8 +26,12 @@ use libc::STDOUT_FILENO;
 
 const NUMBERS: usize = 128;
 
-// What every number of the table holds before a call.
+const BYTES: usize = 512;
+
+// What every number of the table, and every byte of the output, holds before a call.
 const UNTOUCHED: u32 = 2_779_096_485;
+
+const UNTOUCHED_BYTE: u8 = 165;
 
 // The value of a hexadecimal digit, and 0 for any other byte.
 fn digit(byte: u8) -> u8
@@ -49,18 +59,49 @@ fn find(text: &[u8], start: usize, byte: u8) -> usize
     at
 }
 
-// The number that decimal digits spell; no more of them are looked at once it has five.
+// The number that decimal digits spell; no more of them are looked at once it has ten.
 fn number(text: &[u8]) -> usize {
     let mut value: usize = 0;
     let mut at: usize = 0;
     while at < text.len() {
-        if 9999 < value {
+        if 999_999_999 < value {
             break;
         }
         value = value * 10 + digit(text[at]) as usize;
         at += 1;
     }
     value
+}
+
+// The number in 32 bits, or the largest of those where that is less.
+fn capped(number: usize) -> u32 {
+    if number < 4_294_967_295 {
+        number as u32
+    } else {
+        4_294_967_295
+    }
+}
+
+// Puts the numbers that stand between commas at the start of out, as far as both go, and answers how many
+// they are.
+fn decode_numbers(text: &[u8], out: &mut [u32]) -> usize
+    ensures { λ r. ⌜ r ≤ length (now (out .exit)) ⌝ }
+{
+    if check::same(text, b"-") {
+        return 0;
+    }
+    let mut count: usize = 0;
+    let mut at: usize = 0;
+    while count < out.len() {
+        if text.len() <= at {
+            break;
+        }
+        let end = find(text, at, b',');
+        out[count] = capped(number(&text[at..end]));
+        count += 1;
+        at = end + 1;
+    }
+    count
 }
 
 // Puts the bytes that hexadecimal digits spell at the start of out, as far as both go, and answers how
@@ -94,6 +135,18 @@ fn print_numbers(numbers: &[u32]) {
     }
 }
 
+fn print_byte(byte: u8) {
+    io::print_hex(STDOUT_FILENO, byte as u64, 2);
+}
+
+fn print_bytes(bytes: &[u8]) {
+    let mut i: usize = 0;
+    while i < bytes.len() {
+        print_byte(bytes[i]);
+        i += 1;
+    }
+}
+
 // How many numbers are as they were before a call.
 fn untouched(numbers: &[u32]) -> usize {
     let mut count: usize = 0;
@@ -107,20 +160,41 @@ fn untouched(numbers: &[u32]) -> usize {
     count
 }
 
-// How many numbers of the table the stored rows take.
-fn stored(answer: Answer) -> usize
-    ensures { λ r. ⌜ r ≤ 128 ⌝ }
+// How many bytes are as they were before a call.
+fn untouched_bytes(bytes: &[u8]) -> usize {
+    let mut count: usize = 0;
+    let mut i: usize = 0;
+    while i < bytes.len() {
+        if bytes[i] == UNTOUCHED_BYTE {
+            count += 1;
+        }
+        i += 1;
+    }
+    count
+}
+
+// How many rows or bytes are stored, and 0 where an answer has more than there is room for.
+fn stored(answer: Answer, most: usize) -> usize
+    ensures { λ r. ⌜ r ≤ most ⌝ }
 {
     match answer {
         Answer::Refused(_) => 0,
-        Answer::Accepted(rows) => {
-            if (rows as usize) <= NUMBERS / Row::WIDTH {
-                rows as usize * Row::WIDTH
+        Answer::Accepted(count) => {
+            if (count as usize) <= most {
+                count as usize
             } else {
                 0
             }
         }
     }
+}
+
+// The two numbers of an answer, each with a space after it.
+fn print_answer(answer: Answer) {
+    print_number(answer.number());
+    io::write_all(STDOUT_FILENO, b" ");
+    print_number(answer.second());
+    io::write_all(STDOUT_FILENO, b" ");
 }
 
 fn print_table(table: &[u32; NUMBERS], stored: usize)
@@ -129,6 +203,17 @@ fn print_table(table: &[u32; NUMBERS], stored: usize)
     let numbers = &table[..];
     io::print_decimal(STDOUT_FILENO, untouched(&numbers[stored..]) as u64);
     print_numbers(&numbers[..stored]);
+    io::write_all(STDOUT_FILENO, b"\n");
+}
+
+fn print_output(output: &[u8; BYTES], stored: usize)
+    requires { ⌜ stored ≤ 512 ⌝ }
+{
+    let bytes = &output[..];
+    io::print_decimal(STDOUT_FILENO, untouched_bytes(&bytes[stored..]) as u64);
+    io::write_all(STDOUT_FILENO, b" ");
+    print_bytes(&bytes[..stored]);
+    io::write_all(STDOUT_FILENO, b"\n");
 }
 
 fn replay_read(payload: &[u8], lent: usize)
@@ -136,12 +221,17 @@ fn replay_read(payload: &[u8], lent: usize)
 {
     let mut table = [UNTOUCHED; NUMBERS];
     let answer = read::read(payload, &mut table[..lent]);
-    print_number(answer.number());
-    io::write_all(STDOUT_FILENO, b" ");
-    print_number(answer.second());
-    io::write_all(STDOUT_FILENO, b" ");
-    print_table(&table, stored(answer));
-    io::write_all(STDOUT_FILENO, b"\n");
+    print_answer(answer);
+    print_table(&table, stored(answer, NUMBERS / Row::WIDTH) * Row::WIDTH);
+}
+
+fn replay_write<'a>(payload: &'a [u8], edit: &'a [u8], rows: &[u32], lent: usize)
+    requires { ⌜ lent ≤ 512 ⌝ }
+{
+    let mut output = [UNTOUCHED_BYTE; BYTES];
+    let answer = write::write(payload, edit, rows, &mut output[..lent]);
+    print_answer(answer);
+    print_output(&output, stored(answer, BYTES));
 }
 
 // What a call of reading is given, as data/calls.txt has it. Anything else prints nothing.
@@ -160,6 +250,44 @@ fn read_line(fields: &[u8]) {
     replay_read(&payload[..count], lent);
 }
 
+// What a call of writing is given after the count that is lent, as data/calls.txt has it. Anything else
+// prints nothing.
+fn write_fields(fields: &[u8], lent: usize)
+    requires { ⌜ lent ≤ 512 ⌝ }
+{
+    let first = find(fields, 0, b' ');
+    if first == fields.len() {
+        return;
+    }
+    let start = first + 1;
+    let second = find(fields, start, b' ');
+    if second == fields.len() {
+        return;
+    }
+    let last = second + 1;
+    let mut payload = io::buffer();
+    let bytes = decode(&fields[..first], &mut payload);
+    let mut edit = io::buffer();
+    let edits = decode(&fields[start..second], &mut edit);
+    let mut rows = [0u32; NUMBERS];
+    let numbers = decode_numbers(&fields[last..], &mut rows);
+    replay_write(&payload[..bytes], &edit[..edits], &rows[..numbers], lent);
+}
+
+// What a call of writing is given. Anything else prints nothing.
+fn write_line(fields: &[u8]) {
+    let space = find(fields, 0, b' ');
+    if space == fields.len() {
+        return;
+    }
+    let lent = number(&fields[..space]);
+    if BYTES < lent {
+        return;
+    }
+    let start = space + 1;
+    write_fields(&fields[start..], lent);
+}
+
 // A call of the job that the line begins with. A line that names no job prints nothing.
 fn replay_line(line: &[u8]) {
     let space = find(line, 0, b' ');
@@ -169,6 +297,9 @@ fn replay_line(line: &[u8]) {
     let start = space + 1;
     if check::same(&line[..space], b"read") {
         read_line(&line[start..]);
+    }
+    if check::same(&line[..space], b"write") {
+        write_line(&line[start..]);
     }
 }
 

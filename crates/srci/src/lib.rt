@@ -6,6 +6,7 @@ ghost use mathlib.Core.Path.{_≡_};
 ghost use lib.ListN.{length};
 ghost use Rattle.layout.specs.Refusals.{answerNumber, answerSecond};
 ghost use Rattle.format.specs.Read.{readAnswer, readTable};
+ghost use Rattle.format.specs.Write.{writeAnswer, writeOutput};
 use layout::Answer;
 
 // An answer as C has it: 0 with the rows or bytes stored in `second`, or the refusal's number with its second number.
@@ -34,5 +35,23 @@ pub extern "C" fn srci_read(payload: &[u8], rows: &mut [u32], second: &mut u32) 
     ensures { λ _. ⌜ now (second .exit) ≡ answerSecond (readAnswer (now (payload .entry)) (length (now (rows .entry)))) ⌝ }
 {
     let answer = read::read(payload, rows);
+    tell(answer, second)
+}
+
+// Writes the rows of a table, over a payload and an edit text, to a lent output. Answers 0, or the refusal's
+// number. Stores in `second` how many bytes were stored, or the refusal's second number.
+#[no_mangle]
+pub extern "C" fn srci_write<'a>(
+    payload: &'a [u8],
+    edit: &'a [u8],
+    rows: &[u32],
+    output: &mut [u8],
+    second: &mut u32,
+) -> u32
+    ensures { λ r. ⌜ r ≡ answerNumber (writeAnswer (now (payload .entry)) (now (edit .entry)) (now (rows .entry)) (length (now (output .entry)))) ⌝ }
+    ensures { λ _. ⌜ now (output .exit) ≡ writeOutput (now (payload .entry)) (now (edit .entry)) (now (rows .entry)) (now (output .entry)) ⌝ }
+    ensures { λ _. ⌜ now (second .exit) ≡ answerSecond (writeAnswer (now (payload .entry)) (now (edit .entry)) (now (rows .entry)) (length (now (output .entry)))) ⌝ }
+{
+    let answer = write::write(payload, edit, rows, output);
     tell(answer, second)
 }

@@ -1,13 +1,14 @@
 -- A run of stores: two runs in a row are one, and what lies past the end is dropped.
 -- Assumes nothing.
-use mathlib.Core.Path.{_≡_, refl, sym, _∙_}
+use mathlib.Core.Path.{_≡_, refl, sym, ap, _∙_}
 use mathlib.Core.List.{List, [], _∷_, _++_}
-use Prim.Native.Nat.{ℕ, suc, _+_, _-_, min, _≤_}
+use Prim.Native.Nat.{ℕ, suc, _+_, _-_, min, _≤_, _<_}
 use native.Mathlib.Nat.{add-zero, add-suc, suc-add, min-eq-left, min-eq-right}
+use native.Mathlib.Numerals.{add-one}
 use native.Mathlib.Omega.{arith}
 use native.Mathlib.Decide.{decLe}
-use lib.ListN.{length, set, replicate, length-replicate, replicate-append-replicate}
-use lib.Seq.{sets, length-sets, set-out}
+use lib.ListN.{length, getD, take, drop, set, replicate, length-replicate, replicate-append-replicate, take-append-drop}
+use lib.Seq.{sets, length-sets, length-take-le, set-out, take-length, take-suc, set-comm}
 
 module _ {A : Type 0} where
   -- a run that starts at or past the end stores nothing
@@ -39,3 +40,35 @@ module _ {A : Type 0} where
           let e : room + (n - room) ≡ n = omega arith in
           let f : length l ≤ i + length (replicate room a) = omega (arith, length-replicate room a) in
           rw (min-eq-right h) (sym (rw (← e, ← replicate-append-replicate room (n - room) a) (sets-within (replicate room a) (replicate (n - room) a) l i f)))
+
+  -- one store more, of the next of several values
+  pub sets-next : (vs l : List A) (i n : ℕ) (d : A) → n < length vs → set (sets l i (take n vs)) (i + n) (getD vs n d) ≡ sets l i (take (n + 1) vs)
+  sets-next vs l i n d h =
+      let size : length (take n vs) ≡ n = length-take-le n vs (omega arith) in
+      rw (add-one, take-suc vs n d h, sets-append (take n vs) (getD vs n d ∷ []) l i, size)
+
+  -- of several values, those that fit are stored
+  pub sets-room : (vs l : List A) (i : ℕ) → sets l i (take (min (length vs) (length l - i)) vs) ≡ sets l i vs
+  sets-room vs l i = elim (decLe (length vs) (length l - i)) [ yes h ↦ rw (min-eq-left h, take-length vs) | no h ↦ past (omega arith) ]
+    where
+      past : length l - i ≤ length vs → sets l i (take (min (length vs) (length l - i)) vs) ≡ sets l i vs
+      past h =
+          let room : ℕ = length l - i in
+          let f : length l ≤ i + length (take room vs) = omega (arith, length-take-le room vs h) in
+          rw (min-eq-right h) (sym (sets-within (take room vs) (drop room vs) l i f) ∙ rw take-append-drop)
+
+  -- ---- a run that is stored before another in place, and after it in time
+
+  set-sets : (vs l : List A) (i j : ℕ) (a : A) → i < j → set (sets l j vs) i a ≡ sets (set l i a) j vs
+  set-sets [] l i j a h = refl
+  set-sets (v ∷ vs) l i j a h =
+      set-sets vs (set l j v) i (suc j) a (omega arith) ∙ ap (λ (t : List A). sets t (suc j) vs) (set-comm l j i v a (λ e. omega arith))
+
+  sets-apart : (us vs l : List A) (i j : ℕ) → i + length us ≤ j → sets (sets l j vs) i us ≡ sets (sets l i us) j vs
+  sets-apart [] vs l i j h = refl
+  sets-apart (u ∷ us) vs l i j h =
+      ap (λ (t : List A). sets t (suc i) us) (set-sets vs l i j u (omega arith)) ∙ sets-apart us vs (set l i u) (suc i) j (omega arith)
+
+  -- a header that is stored after what follows it
+  pub sets-before : (us vs l : List A) (i j : ℕ) → j ≡ i + length us → sets (sets l j vs) i us ≡ sets l i (us ++ vs)
+  sets-before us vs l i j e = sets-apart us vs l i j (omega arith) ∙ rw e (sym (sets-append us vs l i))

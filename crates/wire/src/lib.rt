@@ -3,11 +3,13 @@
 //
 // Proved: every function is total, has no `requires`, and answers or stores just what its definition in
 // specs/ says. Bytes past the end of a slice read as 0, and what would be stored past the end is dropped.
+mod bytes;
 mod length;
 mod nul;
 mod number;
 mod padding;
 
+pub use bytes::write_bytes;
 pub use length::Terminated;
 pub use length::TextLength;
 pub use length::WireSize;

@@ -38,7 +38,7 @@ pub fn zeros(bytes: &[u8]) -> bool
 }
 
 // How many of `count` places from `offset` on lie within `length`.
-fn fitting(length: usize, offset: usize, count: usize) -> usize
+pub(crate) fn fitting(length: usize, offset: usize, count: usize) -> usize
     ensures { λ r. ⌜ r ≡ min count (length - offset) ⌝ }
 {
     if length <= offset {

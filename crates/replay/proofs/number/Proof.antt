@@ -1,4 +1,4 @@
--- `replay::number` is safe and ends. The loop's invariant: the value stays small, since a digit is added only below 10,000.
+-- `replay::number` is safe and ends. The loop's invariant: the value stays small, since a digit is added only to fewer than ten.
 -- Assumes nothing.
 use Prim.Native.Nat.{_≤_, _-_}
 use lib.ListN.{length}
@@ -7,7 +7,7 @@ use Rattle.replay.proofs.number.Statement.{statement}
 use Rattle.replay.proofs.number.Tie as tie
 
 abbrev Inv-loop : tie.InvT-loop
-Inv-loop text value₀ at₀ value at = (at ≤ length text) × (value ≤ 100005)
+Inv-loop text value₀ at₀ value at = (at ≤ length text) × (value ≤ 10000000005)
 
 abbrev μ-loop : tie.MeasureT-loop
 μ-loop text value₀ at₀ value at = length text - at

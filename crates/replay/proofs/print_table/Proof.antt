@@ -31,6 +31,12 @@ slice-aggregate-print-numbers c = sym (length-take-le _ _ (omega arith))
 print-numbers-requires : tie.Need-print-numbers-requires
 print-numbers-requires c κs = search needs
 
+slice-aggregate-write-all : tie.Need-slice-aggregate-write-all
+slice-aggregate-write-all c = search needs
+
+write-all-requires : tie.Need-write-all-requires
+write-all-requires c κs = search needs
+
 returns : tie.Need-returns
 returns c = search needs
 
@@ -46,4 +52,6 @@ print-table-spec =
     print-decimal-requires
     slice-aggregate-print-numbers
     print-numbers-requires
+    slice-aggregate-write-all
+    write-all-requires
     returns)

@@ -37,6 +37,27 @@ part-read-line-end c = search needs
 read-line-requires : tie.Need-read-line-requires
 read-line-requires c κs = search needs
 
+slice-aggregate-same-3 : tie.Need-slice-aggregate-same-3
+slice-aggregate-same-3 c = sym (length-take-le _ _ (omega arith))
+
+slice-aggregate-same-4 : tie.Need-slice-aggregate-same-4
+slice-aggregate-same-4 c = search needs
+
+same-requires-2 : tie.Need-same-requires-2
+same-requires-2 c κs = search needs
+
+sub-write-line : tie.Need-sub-write-line
+sub-write-line c = search needs
+
+part-write-line-start : tie.Need-part-write-line-start
+part-write-line-start c = search needs
+
+part-write-line-end : tie.Need-part-write-line-end
+part-write-line-end c = search needs
+
+write-line-requires : tie.Need-write-line-requires
+write-line-requires c κs = search needs
+
 returns-2 : tie.Need-returns-2
 returns-2 c = search needs
 
@@ -57,5 +78,12 @@ replay-line-spec =
     part-read-line-start
     part-read-line-end
     read-line-requires
+    slice-aggregate-same-3
+    slice-aggregate-same-4
+    same-requires-2
+    sub-write-line
+    part-write-line-start
+    part-write-line-end
+    write-line-requires
     returns-2
     returns-3)

@@ -16,41 +16,17 @@ slice-aggregate-read c = sym (length-take-le _ _ (omega arith))
 read-requires : tie.Need-read-requires
 read-requires c κs = search needs
 
-number-requires : tie.Need-number-requires
-number-requires c κs = search needs
-
-print-number-requires : tie.Need-print-number-requires
-print-number-requires c κs = search needs
-
-slice-aggregate-write-all : tie.Need-slice-aggregate-write-all
-slice-aggregate-write-all c = search needs
-
-write-all-requires : tie.Need-write-all-requires
-write-all-requires c κs = search needs
-
-second-requires : tie.Need-second-requires
-second-requires c κs = search needs
-
-print-number-requires-2 : tie.Need-print-number-requires-2
-print-number-requires-2 c κs = search needs
-
-slice-aggregate-write-all-2 : tie.Need-slice-aggregate-write-all-2
-slice-aggregate-write-all-2 c = search needs
-
-write-all-requires-2 : tie.Need-write-all-requires-2
-write-all-requires-2 c κs = search needs
+print-answer-requires : tie.Need-print-answer-requires
+print-answer-requires c κs = search needs
 
 stored-requires : tie.Need-stored-requires
 stored-requires c κs = search needs
 
+mul-print-table : tie.Need-mul-print-table
+mul-print-table c = search needs
+
 print-table-requires : tie.Need-print-table-requires
 print-table-requires c κs = search needs
-
-slice-aggregate-write-all-3 : tie.Need-slice-aggregate-write-all-3
-slice-aggregate-write-all-3 c = search needs
-
-write-all-requires-3 : tie.Need-write-all-requires-3
-write-all-requires-3 c κs = search needs
 
 returns : tie.Need-returns
 returns c = search needs
@@ -62,16 +38,8 @@ replay-read-spec =
     array-borrow-prefix-table
     slice-aggregate-read
     read-requires
-    number-requires
-    print-number-requires
-    slice-aggregate-write-all
-    write-all-requires
-    second-requires
-    print-number-requires-2
-    slice-aggregate-write-all-2
-    write-all-requires-2
+    print-answer-requires
     stored-requires
+    mul-print-table
     print-table-requires
-    slice-aggregate-write-all-3
-    write-all-requires-3
     returns)

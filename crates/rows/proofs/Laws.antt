@@ -1,0 +1,71 @@
+-- The laws of measuring: sizes stay bounded, and each row is a step.
+-- Assumes nothing.
+use Prim.Native.Nat.{ℕ, zero, suc, _+_, _≤_}
+use mathlib.Core.Bool.{Bool, true, false, cond}
+use mathlib.Core.List.{List, _∷_}
+use mathlib.Core.Path.{_≡_, refl}
+use native.Mathlib.Omega.{arith}
+use borrow.Author.Tests.{leb-true}
+use lib.Dec.{ltb, leb}
+use Rattle.wire.specs.Length.{wireSize}
+use Rattle.wire.proofs.PaddingLaws.{aligned-by-arithmetic}
+use Rattle.layout.specs.Checked.{fault}
+use Rattle.layout.specs.TextCheck.{verdict}
+use Rattle.layout.specs.declared.refusal.Refusal.{Refusal}
+use Rattle.layout.specs.declared.row.Row.{Row}
+use Rattle.layout.specs.declared.text_check.Check.the-variants.{Passed, Refused}
+use Rattle.layout.proofs.Checked.{after-fault, after-good}
+use Rattle.layout.proofs.TextCheck.{passed, not-passed}
+use Rattle.format.specs.Encoding.{limit}
+use Rattle.format.specs.Rules.{checkRow}
+use Rattle.rows.specs.declared.sizes.Sizes.{Sizes}
+use Rattle.rows.specs.Measure.{capped, added, begin, extend, advance, measureFrom}
+
+pub capped-bound : (n : ℕ) → capped n ≤ limit + 1
+unfolding capped
+capped-bound n = go (leb n limit) refl
+  where
+    go : (b : Bool) → leb n limit ≡ b → cond b n (limit + 1) ≤ limit + 1
+    go true e = omega (arith, leb-true n limit e)
+    go false e = omega arith
+
+-- sizes that stop growing past the limit, and a number of sections that is at most a number
+pub record Bounded (sections : ℕ) (m : Sizes) : Type 0 where
+  pub few : m .sections ≤ sections
+  pub complete : m .complete ≤ limit + 1
+  pub current : m .current ≤ limit + 1
+
+pub advance-bounded : (n : ℕ) (m : Sizes) (r : Row) → Bounded n m → Bounded (n + 1) (advance m r)
+unfolding advance
+advance-bounded n m r h = go (ltb (r .tag) 5)
+  where
+    go : (b : Bool) → Bounded (n + 1) (cond b (begin m r) (extend m r))
+    go true = record { few = omega (arith, h .few); complete = capped-bound _; current = capped-bound _ }
+    go false = record { few = omega (arith, h .few); complete = h .complete; current = capped-bound _ }
+
+-- an entry has at most a header of 16 bytes, two texts with their terminators, and padding
+pub added-bound : (tag : ℕ) (r : Row) → added tag r ≤ r .b + r .d + 20
+unfolding added
+added-bound zero r = omega arith
+added-bound (suc zero) r = omega arith
+added-bound (suc (suc zero)) r = omega arith
+added-bound (suc (suc (suc zero))) r = omega arith
+added-bound (suc (suc (suc (suc zero)))) r = omega arith
+added-bound (suc (suc (suc (suc (suc zero))))) r = omega (arith, aligned-by-arithmetic (12 + wireSize (r .b)))
+added-bound (suc (suc (suc (suc (suc (suc zero)))))) r = omega (arith, aligned-by-arithmetic (16 + wireSize (r .b)))
+added-bound (suc (suc (suc (suc (suc (suc (suc n))))))) r = omega arith
+
+-- a row that breaks a rule ends the measuring, and any other is counted
+module _ (payload edit : List ℕ) (m : Sizes) (r : Row) (rows : List Row) where
+  pub measure-refused :
+      (refusal : Refusal) →
+      verdict (checkRow payload edit (m .previous) r) ≡ Refused refusal →
+      measureFrom payload edit m (r ∷ rows) ≡ fault refusal
+  unfolding measureFrom
+  measure-refused refusal e = after-fault _ _ (not-passed _ refusal e)
+
+  pub measure-passed :
+      verdict (checkRow payload edit (m .previous) r) ≡ Passed →
+      measureFrom payload edit m (r ∷ rows) ≡ measureFrom payload edit (advance m r) rows
+  unfolding measureFrom
+  measure-passed e = after-good _ _ (passed _ e)

@@ -1,0 +1,6 @@
+pub mod RowBytes
+pub mod RunLaws
+pub mod SectionLaws
+pub mod SectionParts
+pub mod SectionStored
+pub mod Stored

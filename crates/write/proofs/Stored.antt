@@ -1,0 +1,118 @@
+-- Fields stored one after the other are the record that they make. Entries of contents and of names are one law: `middle` is what a
+-- header has between the text's size and the text, which is nothing for a content and the content size for a name.
+-- Assumes nothing.
+use Prim.Native.Nat.{ℕ, _+_, _-_}
+use mathlib.Core.List.{List, [], _∷_, _++_, append-assoc, flatMap}
+use mathlib.Core.Path.{_≡_, refl, sym, ap, _∙_}
+use native.Mathlib.Numerals.{add-one}
+use native.Mathlib.Omega.{arith}
+use lib.ListN.{length, replicate, length-append}
+use lib.Seq.{sets}
+use Rattle.wire.specs.Length.{wireSize}
+use Rattle.wire.specs.Number.{bytesOf}
+use Rattle.wire.specs.Padding.{padding, aligned}
+use Rattle.wire.proofs.NumberLaws.{length-bytesOf}
+use Rattle.wire.proofs.Sets.{sets-append, sets-before}
+use Rattle.format.specs.Encoding.{u16, u32, terminate, pairEntry, encodeSection, encode}
+use Rattle.format.specs.Sections.{Section}
+use Rattle.format.proofs.Encoding.{length-encode}
+use Rattle.format.proofs.EntryBytes.{unpadded, entryBytes}
+use Rattle.write.specs.Entry.{pair, entryStart}
+use Rattle.write.specs.Section.{contentsHeader}
+
+-- two runs, the second where the first ends
+stored : (vs ws l : List ℕ) (i j : ℕ) → j ≡ i + length vs → sets (sets l i vs) j ws ≡ sets l i (vs ++ ws)
+stored vs ws l i j e = rw e (sym (sets-append vs ws l i))
+
+-- a number of so many bytes, and a run where it ends
+number-stored :
+    (width n : ℕ) (ws l : List ℕ) (i j : ℕ) → j ≡ i + width → sets (sets l i (bytesOf width n)) j ws ≡ sets l i (bytesOf width n ++ ws)
+number-stored width n ws l i j e = stored (bytesOf width n) ws l i j (omega (arith, length-bytesOf width n))
+
+-- ---- headers
+
+-- a number of four bytes, one of so many where it ends, and a run after both
+pub fields-stored :
+    (first width second : ℕ) (third l : List ℕ) (i j k : ℕ) →
+    j ≡ i + 4 →
+    k ≡ j + width →
+    sets (sets (sets l i (u32 first)) j (bytesOf width second)) k third ≡ sets l i (u32 first ++ (bytesOf width second ++ third))
+fields-stored first width second third l i j k e f =
+    number-stored width second third (sets l i (u32 first)) j k f ∙ number-stored 4 first _ l i j e
+
+pub contents-stored :
+    (l : List ℕ) (at field compression bytes uncompressed count : ℕ) →
+    (let flags : List ℕ = sets (sets (sets l at (u32 field)) (at + 4) (u16 0)) (at + 6) (u16 compression) in
+    sets (sets (sets flags (at + 8) (u32 bytes)) (at + 12) (u32 uncompressed)) (at + 16) (u32 count)
+    ≡ sets l at (contentsHeader field compression bytes uncompressed count))
+contents-stored l at field compression bytes uncompressed count =
+    let flags : List ℕ = sets (sets l at (u32 field)) (at + 4) (u16 0) in
+    let sizes : List ℕ = u32 bytes ++ (u32 uncompressed ++ u32 count) in
+    let kind : List ℕ = sets flags (at + 6) (u16 compression) in
+    number-stored 4 uncompressed (u32 count) (sets kind (at + 8) (u32 bytes)) (at + 12) (at + 16) (omega arith) ∙
+    number-stored 4 bytes (u32 uncompressed ++ u32 count) kind (at + 8) (at + 12) (omega arith) ∙
+    number-stored 2 compression sizes flags (at + 6) (at + 8) (omega arith) ∙
+    fields-stored field 2 0 (u16 compression ++ sizes) l at (at + 4) (at + 6) refl (omega arith)
+
+-- the main header, stored after the sections, makes the payload
+pub payload-stored :
+    (ss : List Section) (l : List ℕ) (size : ℕ) →
+    size ≡ length (encode ss) →
+    sets (sets (sets (sets l 8 (flatMap encodeSection ss)) 0 (u32 size)) 4 (u16 0)) 6 (u16 (length ss)) ≡ sets l 0 (encode ss)
+unfolding encode
+payload-stored ss l size e =
+    let bytes : List ℕ = flatMap encodeSection ss in
+    let header : List ℕ = u32 size ++ (u16 0 ++ u16 (length ss)) in
+    let eight : 8 ≡ 0 + length header = simp (length-append, length-bytesOf) in
+    let whole : header ++ bytes ≡ encode ss = rw (e, length-encode ss) (simp append-assoc) in
+    fields-stored size 2 0 (u16 (length ss)) (sets l 8 bytes) 0 4 6 refl refl ∙ sets-before header bytes l 0 8 eight ∙ ap (λ (t : List ℕ). sets l 0 t) whole
+
+-- ---- an entry
+
+pub start-stored : (l : List ℕ) (at header n : ℕ) →
+    sets (sets (sets l at (u32 (aligned (header + wireSize n)))) (at + 4) (u32 0)) (at + 8) (u32 (wireSize n)) ≡ sets l at (entryStart header n)
+start-stored l at header n = fields-stored (aligned (header + wireSize n)) 4 0 (u32 (wireSize n)) l at (at + 4) (at + 8) refl (omega arith)
+
+length-start : (header n : ℕ) → length (entryStart header n) ≡ 12
+length-start header n = simp (length-append, length-bytesOf)
+
+module _ (header : ℕ) (middle : List ℕ) (sum : header ≡ 12 + length middle) (text : List ℕ) where
+  abbrev n : ℕ
+  n = length text
+
+  -- the NUL and the padding are one run of zeros
+  one-run : entryBytes header middle text ≡ entryStart header n ++ (middle ++ (text ++ replicate (padding (header + wireSize n) + 1) 0))
+  one-run =
+      let size : length (unpadded header middle text) ≡ header + wireSize n = simp (length-append, length-bytesOf) (omega arith) in
+      rw (size, add-one (padding (header + wireSize n))) (simp append-assoc)
+
+  pub entry-stored : (l : List ℕ) (at : ℕ) →
+      sets (sets (sets l at (entryStart header n)) (at + 12) middle) (at + header)
+      (text ++ replicate (at + aligned (header + wireSize n) - (at + header + n)) 0)
+      ≡ sets l at (entryBytes header middle text)
+  unfolding aligned
+  entry-stored l at =
+      let zeros : at + aligned (header + wireSize n) - (at + header + n) ≡ padding (header + wireSize n) + 1 = omega arith in
+      let closed : List ℕ = text ++ replicate (padding (header + wireSize n) + 1) 0 in
+      let start : List ℕ = entryStart header n in
+      rw (zeros, one-run)
+      (stored middle closed (sets l at start) (at + 12) (at + header) (omega arith) ∙
+      stored start (middle ++ closed) l at (at + 12) (omega (arith, length-start header n)))
+
+-- ---- a pair
+
+closed : (text : List ℕ) (at : ℕ) → text ++ replicate (at + wireSize (length text) - (at + length text)) 0 ≡ terminate text
+closed text at =
+    let one : at + wireSize (length text) - (at + length text) ≡ 1 = omega arith in
+    rw one
+
+pub pair-stored : (l key value : List ℕ) (at : ℕ) →
+    (let next : ℕ = at + wireSize (length key) in
+    let end : ℕ = next + wireSize (length value) in
+    sets (sets l at (key ++ replicate (next - (at + length key)) 0)) next (value ++ replicate (end - (next + length value)) 0)
+    ≡ sets l at (pairEntry (pair key value)))
+unfolding pairEntry
+pair-stored l key value at =
+    let next : ℕ = at + wireSize (length key) in
+    rw (closed key at, closed value next)
+    (stored (terminate key) (terminate value) l at next (omega (arith, length-append key (0 ∷ []))))
