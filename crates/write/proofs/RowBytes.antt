@@ -6,7 +6,8 @@ use mathlib.Core.Path.{_≡_, refl, ap}
 use native.Mathlib.Omega.{arith}
 use Rattle.layout.specs.declared.row.Row.{Row}
 use Rattle.format.specs.Encoding.{contentEntry, nameEntry, pairEntry}
-use Rattle.format.specs.Resolve.{contentOf, nameOf, pairOf}
+use Rattle.format.specs.Resolve.{at, contentOf}
+use Rattle.write.specs.Entry.{name, pair}
 use Rattle.write.specs.Run.{rowBytes}
 
 module _ (payload edit : List ℕ) (r : Row) where
@@ -19,16 +20,21 @@ module _ (payload edit : List ℕ) (r : Row) where
   no-entry (suc (suc (suc (suc zero)))) h = refl
   no-entry (suc (suc (suc (suc (suc n))))) h = absurd (omega arith)
 
-  pub content-row : rowBytes payload edit 5 r ≡ contentEntry (contentOf payload edit r)
+  pub content-row : {tag : ℕ} {text : List ℕ} → tag ≡ 5 → text ≡ contentOf payload edit r → rowBytes payload edit tag r ≡ contentEntry text
   unfolding rowBytes
-  content-row = refl
+  content-row e f = rw (e, f)
 
-  pub name-row : rowBytes payload edit 6 r ≡ nameEntry (nameOf payload edit r)
+  pub name-row : {tag : ℕ} {text : List ℕ} → tag ≡ 6 → text ≡ at payload edit r (r .a) (r .b) → rowBytes payload edit tag r ≡ nameEntry (name text (r .c))
   unfolding rowBytes
-  name-row = refl
+  name-row e f = rw (e, f)
 
-  pub pair-row : (tag : ℕ) → 7 ≤ tag → rowBytes payload edit tag r ≡ pairEntry (pairOf payload edit r)
+  pub pair-row :
+      (tag : ℕ) {key value : List ℕ} →
+      7 ≤ tag →
+      key ≡ at payload edit r (r .a) (r .b) →
+      value ≡ at payload edit r (r .c) (r .d) →
+      rowBytes payload edit tag r ≡ pairEntry (pair key value)
   unfolding rowBytes
-  pair-row tag h =
+  pair-row tag h e f =
       let from : tag ≡ suc (suc (suc (suc (suc (suc (suc (tag - 7))))))) = omega arith in
-      ap (λ (t : ℕ). rowBytes payload edit t r) from
+      rw (e, f) (ap (λ (t : ℕ). rowBytes payload edit t r) from)

@@ -33,13 +33,13 @@ run-leading payload edit tag f g h (r ∷ rows) =
 
 module _ (payload edit : List ℕ) (rows : List Row) where
   pub run-contents : runBytes payload edit 5 rows ≡ flatMap contentEntry (leading 5 (contentOf payload edit) rows)
-  run-contents = run-leading payload edit 5 (contentOf payload edit) contentEntry (content-row payload edit) rows
+  run-contents = run-leading payload edit 5 (contentOf payload edit) contentEntry (λ r. content-row payload edit r refl refl) rows
 
   pub run-names : runBytes payload edit 6 rows ≡ flatMap nameEntry (leading 6 (nameOf payload edit) rows)
-  run-names = run-leading payload edit 6 (nameOf payload edit) nameEntry (name-row payload edit) rows
+  run-names = run-leading payload edit 6 (nameOf payload edit) nameEntry (λ r. name-row payload edit r refl refl) rows
 
   pub run-pairs : runBytes payload edit 7 rows ≡ flatMap pairEntry (leading 7 (pairOf payload edit) rows)
-  run-pairs = run-leading payload edit 7 (pairOf payload edit) pairEntry (λ r. pair-row payload edit r 7 (omega arith)) rows
+  run-pairs = run-leading payload edit 7 (pairOf payload edit) pairEntry (λ r. pair-row payload edit r 7 (omega arith) refl refl) rows
 
 pub count-leading : {A : Type 0} (tag : ℕ) (f : Row → A) (rows : List Row) → length (leading tag f rows) ≡ entryCount tag rows
 count-leading tag f [] = unfold leading in refl

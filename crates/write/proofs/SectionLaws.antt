@@ -42,6 +42,15 @@ module _ (payload edit : List ℕ) where
   unfolding kindOf sectionFrom
   unknown-kind r rows = refl
 
+  -- packed contents and unknown sections have no entries
+  pub packed-alone : (r : Row) (rows : List Row) → sectionFrom payload edit 1 r [] ≡ sectionFrom payload edit 1 r rows
+  unfolding sectionFrom
+  packed-alone r rows = refl
+
+  pub unknown-alone : (r : Row) (rows : List Row) → sectionFrom payload edit 4 r [] ≡ sectionFrom payload edit 4 r rows
+  unfolding sectionFrom
+  unknown-alone r rows = refl
+
   -- the section of the row at an index, where its tag is known
   module _ (rows : List Row) (index t : ℕ) (r : Row) (e : r ≡ getD rows index noRow) (q : r .tag ≡ t) where
     pub section-of-tag : sectionFrom payload edit t r (drop (index + 1) rows) ≡ sectionAt payload edit rows index

@@ -56,6 +56,15 @@ module _
         whole ≡ sets l at (encodeSection s)
     parts-stored l headed e f = cc (parts .starts, parts .stored, parts .headed, parts .kinded, section-stored s l at end span)
 
+-- bytes that are those that a section stores end where these end
+pub own-ends :
+    {s : Section} {first : ℕ} {bytes header : List ℕ} {kind : ℕ} →
+    Parts s first bytes header kind →
+    (at : ℕ) {own : List ℕ} →
+    own ≡ bytes →
+    at + first + length own ≡ at + first + length bytes
+own-ends {first = first} parts at e = ap (λ (l : List ℕ). at + first + length l) e
+
 -- ---- the parts of each kind
 
 module _ (payload edit : List ℕ) (row : Row) (rows : List Row) where

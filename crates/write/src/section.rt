@@ -1,5 +1,6 @@
 // Sections, stored at a place of the output. What a section stores goes first, since its headers count it.
 ghost use mathlib.Core.Bool.{true};
+ghost use mathlib.Core.List.{[]};
 ghost use mathlib.Core.Path.{_≡_};
 ghost use Prim.Native.Nat.{_+_, _-_, _≤_};
 ghost use lib.ListN.{length, drop};
@@ -141,21 +142,17 @@ pub fn write_plain<'a>(
     Ended { index, at: next }
 }
 
-// Packed contents, whose stream is stored as it is.
+// Packed contents, whose stream is stored as it is. Answers the place after them.
 pub fn write_packed<'a>(
     payload: &'a [u8],
     edit: &'a [u8],
     row: Row,
-    rows: &[u32],
-    first: usize,
     output: &mut [u8],
     start: usize,
-) -> Ended
-    requires { ⌜ first ≤ length (rowsOf (now rows)) ⌝ }
-    requires { ⌜ start + length (encodeSection (sectionFrom (now payload) (now edit) 1 row (drop first (rowsOf (now rows))))) ≤ limit ⌝ }
-    ensures { λ r. ⌜ r .index ≡ first ⌝ }
-    ensures { λ r. ⌜ r .at ≡ start + length (encodeSection (sectionFrom (now (payload .entry)) (now (edit .entry)) 1 row (drop first (rowsOf (now (rows .entry)))))) ⌝ }
-    ensures { λ _. ⌜ now (output .exit) ≡ sets (now (output .entry)) start (encodeSection (sectionFrom (now (payload .entry)) (now (edit .entry)) 1 row (drop first (rowsOf (now (rows .entry)))))) ⌝ }
+) -> usize
+    requires { ⌜ start + length (encodeSection (sectionFrom (now payload) (now edit) 1 row [])) ≤ limit ⌝ }
+    ensures { λ r. ⌜ r ≡ start + length (encodeSection (sectionFrom (now (payload .entry)) (now (edit .entry)) 1 row [])) ⌝ }
+    ensures { λ _. ⌜ now (output .exit) ≡ sets (now (output .entry)) start (encodeSection (sectionFrom (now (payload .entry)) (now (edit .entry)) 1 row [])) ⌝ }
 {
     let stream = bytes_of(payload, edit, row.side, row.b, row.c);
     let stored = start + SourceInfoSectionType::CONTENTS_START;
@@ -169,36 +166,24 @@ pub fn write_packed<'a>(
         row.e,
         row.d,
     );
-    let next = write_frame(output, start, stored + stream.len(), 0);
-    Ended {
-        index: first,
-        at: next,
-    }
+    write_frame(output, start, stored + stream.len(), 0)
 }
 
-// A section of an unknown kind, whose bytes are stored as they are.
+// A section of an unknown kind, whose bytes are stored as they are. Answers the place after it.
 pub fn write_unknown<'a>(
     payload: &'a [u8],
     edit: &'a [u8],
     row: Row,
-    rows: &[u32],
-    first: usize,
     output: &mut [u8],
     start: usize,
-) -> Ended
-    requires { ⌜ first ≤ length (rowsOf (now rows)) ⌝ }
-    requires { ⌜ start + length (encodeSection (sectionFrom (now payload) (now edit) 4 row (drop first (rowsOf (now rows))))) ≤ limit ⌝ }
+) -> usize
+    requires { ⌜ start + length (encodeSection (sectionFrom (now payload) (now edit) 4 row [])) ≤ limit ⌝ }
     requires { ⌜ row .a ≤ 65535 ⌝ }
-    ensures { λ r. ⌜ r .index ≡ first ⌝ }
-    ensures { λ r. ⌜ r .at ≡ start + length (encodeSection (sectionFrom (now (payload .entry)) (now (edit .entry)) 4 row (drop first (rowsOf (now (rows .entry)))))) ⌝ }
-    ensures { λ _. ⌜ now (output .exit) ≡ sets (now (output .entry)) start (encodeSection (sectionFrom (now (payload .entry)) (now (edit .entry)) 4 row (drop first (rowsOf (now (rows .entry)))))) ⌝ }
+    ensures { λ r. ⌜ r ≡ start + length (encodeSection (sectionFrom (now (payload .entry)) (now (edit .entry)) 4 row [])) ⌝ }
+    ensures { λ _. ⌜ now (output .exit) ≡ sets (now (output .entry)) start (encodeSection (sectionFrom (now (payload .entry)) (now (edit .entry)) 4 row [])) ⌝ }
 {
     let bytes = bytes_of(payload, edit, row.side, row.b, row.c);
     let stored = start + SourceInfoSectionType::SECTION_HEADER_SIZE;
     wire::write_bytes(output, stored, bytes);
-    let next = write_frame(output, start, stored + bytes.len(), row.a as u16);
-    Ended {
-        index: first,
-        at: next,
-    }
+    write_frame(output, start, stored + bytes.len(), row.a as u16)
 }

@@ -43,10 +43,16 @@ fn write_section<'a>(
     let tag = row.tag;
     match tag {
         0 => write_plain(payload, edit, row, rows, first, output, start),
-        1 => write_packed(payload, edit, row, rows, first, output, start),
+        1 => Ended {
+            index: first,
+            at: write_packed(payload, edit, row, output, start),
+        },
         2 => write_names(payload, edit, row, rows, first, output, start),
         3 => write_arguments(payload, edit, row, rows, first, output, start),
-        _ => write_unknown(payload, edit, row, rows, first, output, start),
+        _ => Ended {
+            index: first,
+            at: write_unknown(payload, edit, row, output, start),
+        },
     }
 }
 

@@ -48,7 +48,7 @@ returns c =
     let a = count .before .before .before .before .args in
     rw (sym (plain .before .read-u16 .ensures) ∙ plain .if1 .taken) (
       omega (arith, count .read-u322 .ensures, length-walkEntries (a .payload .now) 12 (u32At (a .payload .now) (a .at + 24)) (a .at + 28)),
-      cc,
+      rw (entries .fill-entries .ensures, count .read-u322 .ensures, entries .before .before .before .before .store .ensures, count .before .read-u32 .ensures),
     )
 
 returns-2 : tie.Need-returns-2

@@ -112,7 +112,7 @@ returns-2 c =
     let a = section .before .before .before .before .args in
     rw (kind-told section SourceNames (told .enum-told2 .given .1)) (
       omega (arith, count .read-u32 .ensures, length-walkEntries (a .payload .now) 16 (u32At (a .payload .now) (a .at + 12)) (a .at + 18)),
-      cc,
+      rw (c .before .before .fill-entries .ensures, count .read-u32 .ensures, count .before .before .before .store .ensures, count .before .before .before .before .before .bare-row .ensures),
     )
 
 returns-3 : tie.Need-returns-3
@@ -124,7 +124,7 @@ returns-3 c =
     let a = section .before .before .before .before .args in
     rw (kind-told section Arguments (told .enum-told3 .given .1)) (
       omega (arith, count .read-u322 .ensures, length-walkPairs (a .payload .now) (u32At (a .payload .now) (a .at + 16)) (a .at + 20)),
-      cc,
+      rw (c .before .before .fill-pairs .ensures, count .read-u322 .ensures, count .before .before .before .store2 .ensures, count .before .before .before .before .before .bare-row2 .ensures),
     )
 
 returns-4 : tie.Need-returns-4

@@ -1,7 +1,7 @@
 -- `write::entry::write_start` meets its contract: the three fields make the start of an entry, and the aligned size is within the limit.
 -- Assumes nothing.
-use mathlib.Core.Path.{_≡_}
-use Prim.Native.Nat.{_+_}
+use mathlib.Core.Path.{_≡_, ap, _∙_}
+use Prim.Native.Nat.{ℕ, _+_}
 use native.Mathlib.Omega.{arith}
 use borrow.Author.Needs.{needs}
 use Rattle.wire.specs.Length.{wireSize}
@@ -20,11 +20,15 @@ cast-size c = omega (arith, le-aligned (c .before .before .before .args .header 
 align4-requires : tie.Need-align4-requires
 align4-requires c κs = search needs
 
+-- the aligned size is that of the header and the text's size
+whole : (c : tie.After-align4) →
+    (let a = c .before .before .before .before .args in c .align4 .result ≡ aligned (a .header + wireSize (a .text .0)))
+whole c =
+    let a = c .before .before .before .before .args in
+    c .align4 .ensures ∙ ap (λ (n : ℕ). aligned (a .header + n)) (c .before .before .wire-size .ensures)
+
 cast-write-u32 : tie.Need-cast-write-u32
-cast-write-u32 c =
-    let a = c .before .before .before .before .before .args in
-    let whole : c .before .align4 .result ≡ aligned (a .header + wireSize (a .text .0)) = cc in
-    omega arith
+cast-write-u32 c = omega (arith, whole (c .before))
 
 write-u32-requires : tie.Need-write-u32-requires
 write-u32-requires c κs = search needs
@@ -46,8 +50,15 @@ same-length c = search needs
 
 returns : tie.Need-returns
 returns c =
-    let a = c .before .before .before .before .before .before .before .before .before .before .before .before .before .before .before .before .args in
-    (cc, cc (start-stored (a .output .now) (a .at) (a .header) (a .text .0)))
+    let third = c .before .before in
+    let second = third .before .before .before .before in
+    let first = second .before .before .before .before in
+    let size = first .before .before in
+    let a = size .before .before .before .before .args in (
+      whole size,
+      rw (third .write-u323 .ensures, second .write-u322 .ensures, first .write-u32 .ensures, whole size, size .before .before .wire-size .ensures)
+          (start-stored (a .output .now) (a .at) (a .header) (a .text .0)),
+    )
 
 pub write-start-spec : {M : Type 1} → statement M
 write-start-spec =

@@ -1,8 +1,8 @@
 -- `write::section::write_names` meets its contract: the run, the three fields of the body header and the frame are the parts of names,
 -- whose entry bytes fit 16 bits and are no fewer than the entries.
 -- Assumes nothing.
-use Prim.Native.Nat.{_+_, _-_}
-use mathlib.Core.Path.{_≡_, refl}
+use Prim.Native.Nat.{ℕ, _+_, _-_}
+use mathlib.Core.Path.{_≡_, refl, ap, _∙_}
 use native.Mathlib.Omega.{arith}
 use lib.ListN.{length, drop}
 use lib.Seq.{sets}
@@ -91,7 +91,7 @@ returns c =
     let stored = sets (a .output .now) (a .start + 18) bytes in
     let fields = fields-stored 0 4 (entryCount 6 rows) (u16 (length bytes)) stored (a .start + 8) (a .start + 12) (a .start + 16) (omega arith) (omega arith) in
     let whole = parts-stored parts (a .start) end ends (a .output .now) (third .last .0) (rw (third .ensures, second .ensures, first .ensures, run .ensures .1 .1, count, size) fields) (c .before .before .write-frame .ensures .1) in
-    (search needs, (cc (section-size parts (a .start) end ends), whole))
+    (search needs, (c .before .before .write-frame .ensures .0 ∙ ap (λ (n : ℕ). a .start + n) (section-size parts (a .start) end ends), whole))
 
 pub write-names-spec : {M : Type 1} → statement M
 write-names-spec =

@@ -1,8 +1,8 @@
 -- `write::section::write_plain` meets its contract: the run, the body header and the frame are the parts of plain contents, whose entries
 -- are no more than their bytes.
 -- Assumes nothing.
-use Prim.Native.Nat.{_+_, _-_}
-use mathlib.Core.Path.{_≡_, refl}
+use Prim.Native.Nat.{ℕ, _+_, _-_}
+use mathlib.Core.Path.{_≡_, refl, ap, _∙_}
 use native.Mathlib.Omega.{arith}
 use lib.ListN.{length, drop}
 use borrow.Author.Needs.{needs}
@@ -80,7 +80,7 @@ returns c =
     let count : run .result .index - a .first ≡ entryCount 5 rows = omega arith in
     let size : end - (a .start + 28) ≡ length bytes = omega arith in
     let whole = parts-stored parts (a .start) end ends (a .output .now) (header .last .0) (rw (header .ensures, run .ensures .1 .1, count, size)) (c .before .before .write-frame .ensures .1) in
-    (search needs, (cc (section-size parts (a .start) end ends), whole))
+    (search needs, (c .before .before .write-frame .ensures .0 ∙ ap (λ (n : ℕ). a .start + n) (section-size parts (a .start) end ends), whole))
 
 pub write-plain-spec : {M : Type 1} → statement M
 write-plain-spec =

@@ -1,12 +1,11 @@
 -- `write::section::write_unknown` meets its contract: the row's bytes and the frame are the parts of an unknown section.
 -- Assumes nothing.
-use mathlib.Core.Path.{refl}
-use Prim.Native.Nat.{_+_}
+use Prim.Native.Nat.{ℕ, _+_}
+use mathlib.Core.List.{[]}
+use mathlib.Core.Path.{ap, _∙_}
 use native.Mathlib.Omega.{arith}
-use lib.ListN.{length, drop}
 use borrow.Author.Needs.{needs}
-use Rattle.layout.specs.Rows.{rowsOf}
-use Rattle.write.proofs.SectionParts.{unknown-parts, section-size, parts-stored}
+use Rattle.write.proofs.SectionParts.{unknown-parts, own-ends, section-size, parts-stored}
 use Rattle.write.proofs.section.write_unknown.Statement.{statement}
 use Rattle.write.proofs.section.write_unknown.Tie as tie
 
@@ -27,20 +26,27 @@ cast-write-frame c = search needs
 
 write-frame-requires : tie.Need-write-frame-requires
 write-frame-requires c κs =
-    let a = c .before .before .before .before .before .before .before .before .before .before .before .args in
-    let parts = unknown-parts (a .payload .now) (a .edit .now) (a .row) (drop (a .first) (rowsOf (a .rows .now))) in
-    let end = a .start + 8 + length (c .before .before .before .before .before .before .bytes-of .result .now) in
-    (omega arith, omega (arith, section-size parts (a .start) end (cc)))
+    let s = c .before .before .before .before .before .before in
+    let a = s .before .before .before .before .args in
+    let parts = unknown-parts (a .payload .now) (a .edit .now) (a .row) [] in
+    (omega arith, omega (arith, section-size parts (a .start) _ (own-ends parts (a .start) (s .bytes-of .ensures))))
 
 same-length : tie.Need-same-length
 same-length c = search needs
 
 returns : tie.Need-returns
 returns c =
-    let a = c .before .before .before .before .before .before .before .before .before .before .before .before .before .before .args in
-    let parts = unknown-parts (a .payload .now) (a .edit .now) (a .row) (drop (a .first) (rowsOf (a .rows .now))) in
-    let end = a .start + 8 + length (c .before .before .before .before .before .before .before .before .before .bytes-of .result .now) in
-    (refl, (cc (section-size parts (a .start) end (cc)), parts-stored parts (a .start) end (cc) (a .output .now) (c .before .before .before .before .before .before .before .write-bytes .last .0) (cc) (c .before .before .write-frame .ensures .1)))
+    let frame = c .before .before in
+    let bytes = frame .before .before .before .before .before in
+    let s = bytes .before .before in
+    let a = s .before .before .before .before .args in
+    let parts = unknown-parts (a .payload .now) (a .edit .now) (a .row) [] in
+    let end = own-ends parts (a .start) (s .bytes-of .ensures) in (
+      frame .write-frame .ensures .0 ∙ ap (λ (n : ℕ). a .start + n) (section-size parts (a .start) _ end),
+      parts-stored parts (a .start) _ end (a .output .now) (bytes .write-bytes .last .0)
+          (rw (bytes .write-bytes .ensures, s .bytes-of .ensures))
+          (frame .write-frame .ensures .1),
+    )
 
 pub write-unknown-spec : {M : Type 1} → statement M
 write-unknown-spec =

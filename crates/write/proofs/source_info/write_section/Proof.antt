@@ -1,7 +1,7 @@
 -- `source_info::write_section` meets its contract: each arm is told the tag of the row, and so which section it is.
 -- Assumes nothing.
 use Prim.Native.Nat.{_+_, _≤_, _<_}
-use mathlib.Core.Path.{_≡_, sym, ap, _∙_}
+use mathlib.Core.Path.{_≡_, sym, ap}
 use native.Mathlib.Nat.{add-zero}
 use native.Mathlib.Omega.{arith}
 use borrow.Author.Needs.{needs}
@@ -13,7 +13,7 @@ use Rattle.layout.proofs.Rows.{length-rowsOf}
 use Rattle.format.specs.Encoding.{kindOf}
 use Rattle.rows.proofs.Rules.{past-arms}
 use Rattle.write.specs.Section.{sectionFrom}
-use Rattle.write.proofs.SectionLaws.{unknown-kind, section-of-tag, told-by-tag}
+use Rattle.write.proofs.SectionLaws.{packed-alone, unknown-alone, unknown-kind, section-of-tag, told-by-tag}
 use Rattle.write.proofs.source_info.write_section.Statement.{statement}
 use Rattle.write.proofs.source_info.write_section.Tie as tie
 
@@ -39,7 +39,7 @@ write-packed-requires c κs =
     let s = l .before .before .before .before .before in
     let a = s .args in
     let is = section-of-tag (now (a .payload)) (now (a .edit)) (rowsOf (now (a .rows))) (a .index) 1 (l .load .result) (l .load .ensures) (c .before .match .keys2) in
-    (omega arith, rw is (s .pre .1 .1 .1 .1))
+    rw (packed-alone (now (a .payload)) (now (a .edit)) (l .load .result) (drop (a .index + 1) (rowsOf (now (a .rows)))), is) (s .pre .1 .1 .1 .1)
 
 write-names-requires : tie.Need-write-names-requires
 write-names-requires c κs =
@@ -70,7 +70,7 @@ write-unknown-requires c κs =
     let is = section-of-tag (now (a .payload)) (now (a .edit)) (rowsOf (now (a .rows))) (a .index) 4 (l .load .result) (l .load .ensures) tag in
     let rest = drop (a .index + 1) (rowsOf (now (a .rows))) in
     let kind : kindOf (sectionFrom (now (a .payload)) (now (a .edit)) 4 (l .load .result) rest) ≤ 65535 = rw is (s .pre .1 .1 .0) in
-    (omega arith, (rw is (s .pre .1 .1 .1 .1), omega (arith, kind, unknown-kind (now (a .payload)) (now (a .edit)) (l .load .result) rest)))
+    (rw (unknown-alone (now (a .payload)) (now (a .edit)) (l .load .result) rest, is) (s .pre .1 .1 .1 .1), omega (arith, kind, unknown-kind (now (a .payload)) (now (a .edit)) (l .load .result) rest))
 
 same-length : tie.Need-same-length
 same-length c = search needs
@@ -92,7 +92,7 @@ returns-2 c =
     let a = l .before .before .before .before .before .args in
     told-by-tag (now (a .payload)) (now (a .edit)) (rowsOf (now (a .rows))) (a .index) 1 (l .load .result) (l .load .ensures) (c .before .before .before .before .match .keys2)
     (a .start) _ _ (now (a .output)) _
-    (let e = c .before .before .write-packed .ensures in (e .0 ∙ sym (add-zero _), e .1))
+    (sym (add-zero _), rw (packed-alone (now (a .payload)) (now (a .edit)) (l .load .result) (drop (a .index + 1) (rowsOf (now (a .rows))))) at (c .before .before .write-packed .ensures))
 
 same-length-3 : tie.Need-same-length-3
 same-length-3 c = search needs
@@ -127,7 +127,7 @@ returns-5 c =
     let tag = four (l .load .result) _ (l .load .ensures) (s .pre .1 .0) (past-arms 4 _ (c .before .before .before .before .match .rest)) in
     told-by-tag (now (a .payload)) (now (a .edit)) (rowsOf (now (a .rows))) (a .index) 4 (l .load .result) (l .load .ensures) tag
     (a .start) _ _ (now (a .output)) _
-    (let e = c .before .before .write-unknown .ensures in (e .0 ∙ sym (add-zero _), e .1))
+    (sym (add-zero _), rw (unknown-alone (now (a .payload)) (now (a .edit)) (l .load .result) (drop (a .index + 1) (rowsOf (now (a .rows))))) at (c .before .before .write-unknown .ensures))
 
 pub write-section-spec : {M : Type 1} → statement M
 write-section-spec =
