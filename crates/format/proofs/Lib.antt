@@ -24,6 +24,7 @@ pub mod PlacedRows
 pub mod Runs
 pub mod Items
 pub mod SectionBytes
+pub mod SectionFields
 pub mod BodiesStand
 pub mod BodiesRead
 pub mod PayloadStands
@@ -38,4 +39,7 @@ pub mod Encoded
 pub mod Promises
 pub mod RoundTrips
 pub mod Renaming
+-- The listing by a walk
+pub mod LinesFound
+pub mod PrintLaws
 pub mod Samples

@@ -9,7 +9,7 @@ use lib.ListN.{length, length-append}
 use Rattle.wire.specs.Number.{u16At, u32At}
 use Rattle.layout.specs.Checked.{good}
 use Rattle.layout.specs.declared.row.Row.{Row}
-use Rattle.format.specs.Encoding.{encodeSection, encode, allFit, fits}
+use Rattle.format.specs.Encoding.{limit, encodeSection, encode, allFit, fits}
 use Rattle.format.specs.Parse.{sections, parse}
 use Rattle.format.specs.Sections.{Section}
 use Rattle.format.specs.WellFormed.{Bytes, All, WellFormed}
@@ -52,9 +52,13 @@ sections-stand p bytes (suc count) at rs e =
       rows = told .all ∙ ap₂ (λ (a b : List Row). a ++ b) (first .rows) (rest .rows ∙ ap (λ (k : ℕ). rowsFrom k ss) next);
     }
 
--- what an accepted payload is
+-- what an accepted payload is: the encoding of well-formed sections, which stand in it after the main header
 pub record Payload (p : List ℕ) (rs : List Row) : Type 0 where
   pub sections : List Section
+  pub small : length p ≤ limit
+  pub many : u16At p 6 ≡ length sections
+  pub stand : Stands p 8 (flatMap encodeSection sections)
+  pub ends : 8 + length (flatMap encodeSection sections) ≡ length p
   pub ok : All WellFormed sections
   pub fit : fits sections ≡ true
   pub is : encode sections ≡ p
@@ -75,6 +79,10 @@ payload-stands p bytes rs e =
     let few : length ss ≤ 65535 = omega (arith, all .many, number-below p bytes 2 6) in
     record {
       sections = ss;
+      small = small;
+      many = sym (all .many);
+      stand = all .stand;
+      ends = all .ends;
       ok = all .ok;
       fit = fits-found ss few (all .fit) (omega arith);
       is = is;

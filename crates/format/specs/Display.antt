@@ -30,19 +30,44 @@ unfoldable pub hex : ℕ → ℕ → List ℕ
 hex zero n = []
 hex (suc places) n = hex places (n / 16) ++ (digit (n % 16) ∷ [])
 
--- what a section's line says after its place
+-- ---- what the line of each kind of section says after its place
+
+abbrev pub plainLine : ℕ → List ℕ
+plainLine count = ascii "SourceContents: " ++ (decimal count ++ ascii " uncompressed file(s)")
+
+abbrev pub packedLine : ℕ → ℕ → List ℕ
+packedLine count bytes = ascii "SourceContents: " ++ (decimal count ++ (ascii " zlib file(s), " ++ (decimal bytes ++ ascii " bytes")))
+
+abbrev pub namesLine : ℕ → List ℕ
+namesLine count = ascii "SourceNames: " ++ (decimal count ++ ascii " file(s)")
+
+abbrev pub argumentsLine : ℕ → List ℕ
+argumentsLine count = ascii "Arguments: " ++ (decimal count ++ ascii " pair(s)")
+
+abbrev pub unknownLine : ℕ → ℕ → List ℕ
+unknownLine kind bytes = ascii "Unknown(0x" ++ (hex 4 kind ++ (ascii "): " ++ (decimal bytes ++ ascii " bytes")))
+
 unfoldable pub described : Section → List ℕ
-described (plain header texts) = ascii "SourceContents: " ++ (decimal (length texts) ++ ascii " uncompressed file(s)")
-described (packed header stream count uncompressed) =
-    ascii "SourceContents: " ++ (decimal count ++ (ascii " zlib file(s), " ++ (decimal (length stream) ++ ascii " bytes")))
-described (names ns) = ascii "SourceNames: " ++ (decimal (length ns) ++ ascii " file(s)")
-described (arguments ps) = ascii "Arguments: " ++ (decimal (length ps) ++ ascii " pair(s)")
-described (unknown kind bytes) = ascii "Unknown(0x" ++ (hex 4 kind ++ (ascii "): " ++ (decimal (length bytes) ++ ascii " bytes")))
+described (plain header texts) = plainLine (length texts)
+described (packed header stream count uncompressed) = packedLine count (length stream)
+described (names ns) = namesLine (length ns)
+described (arguments ps) = argumentsLine (length ps)
+described (unknown kind bytes) = unknownLine kind (length bytes)
+
+-- ---- the lines
+
+-- the first line, of so many sections
+abbrev pub heading : ℕ → List ℕ
+heading count = ascii "// Shader Source Info: " ++ (decimal count ++ ascii " section(s)\n")
+
+-- a section's line, at a place, of what is said of it
+abbrev pub line : ℕ → List ℕ → List ℕ
+line place text = ascii "//   [" ++ (decimal place ++ (ascii "] " ++ (text ++ ascii "\n")))
 
 -- a line for each section, the first of which has a place
 unfoldable pub lines : ℕ → List Section → List ℕ
 lines place [] = []
-lines place (s ∷ ss) = ascii "//   [" ++ (decimal place ++ (ascii "] " ++ (described s ++ (ascii "\n" ++ lines (place + 1) ss))))
+lines place (s ∷ ss) = line place (described s) ++ lines (place + 1) ss
 
 unfoldable pub display : List Section → List ℕ
-display ss = ascii "// Shader Source Info: " ++ (decimal (length ss) ++ (ascii " section(s)\n" ++ lines 0 ss))
+display ss = heading (length ss) ++ lines 0 ss

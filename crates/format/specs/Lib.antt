@@ -13,6 +13,7 @@ pub mod Output
 pub mod Write
 pub mod Display
 pub mod Listing
+pub mod Print
 -- Public copy
 pub mod PublicCopy
 pub mod PublicFacts
@@ -23,3 +24,4 @@ pub mod Promises
 pub mod RoundTrips
 -- How a second pass goes over a payload
 pub mod Walk
+pub mod Lines

@@ -10,10 +10,10 @@
 //   Refused calls    Parse (reading, fault by fault), Read, Write, Listing (the jobs with what they are
 //                    lent), Output (lent output, whichever job)
 //   Public copy      PublicCopy, PublicFacts
-//   Sample payloads  Samples (the starred ones), Display (the lines of a listing)
+//   Sample payloads  Samples (the starred ones), Display (the lines of a listing), Print (what a program prints)
 //   what follows     Promises (of each job by itself), RoundTrips (of reading and writing together)
 //
-// Walk is no part of the meaning: it says how a second pass goes over an accepted payload. Refusals, rows
+// Walk and Lines are no part of the meaning: they say how a pass goes over an accepted payload. Refusals, rows
 // and the text that a row names have code, and are defined in crate layout; numbers, padding and NULs in wire;
 // UTF-8 in utf8.
 //

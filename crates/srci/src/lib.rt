@@ -7,6 +7,7 @@ ghost use lib.ListN.{length};
 ghost use Rattle.layout.specs.Refusals.{answerNumber, answerSecond};
 ghost use Rattle.format.specs.Read.{readAnswer, readTable};
 ghost use Rattle.format.specs.Write.{writeAnswer, writeOutput};
+ghost use Rattle.format.specs.Listing.{listAnswer, listOutput};
 use layout::Answer;
 
 // An answer as C has it: 0 with the rows or bytes stored in `second`, or the refusal's number with its second number.
@@ -53,5 +54,17 @@ pub extern "C" fn srci_write<'a>(
     ensures { λ _. ⌜ now (second .exit) ≡ answerSecond (writeAnswer (now (payload .entry)) (now (edit .entry)) (now (rows .entry)) (length (now (output .entry)))) ⌝ }
 {
     let answer = write::write(payload, edit, rows, output);
+    tell(answer, second)
+}
+
+// Lists a payload to a lent output. Answers 0, or the refusal's number. Stores in `second` how many bytes were
+// stored, or the refusal's second number.
+#[no_mangle]
+pub extern "C" fn srci_list(payload: &[u8], output: &mut [u8], second: &mut u32) -> u32
+    ensures { λ r. ⌜ r ≡ answerNumber (listAnswer (now (payload .entry)) (length (now (output .entry)))) ⌝ }
+    ensures { λ _. ⌜ now (output .exit) ≡ listOutput (now (payload .entry)) (now (output .entry)) ⌝ }
+    ensures { λ _. ⌜ now (second .exit) ≡ answerSecond (listAnswer (now (payload .entry)) (length (now (output .entry)))) ⌝ }
+{
+    let answer = listing::list(payload, output);
     tell(answer, second)
 }

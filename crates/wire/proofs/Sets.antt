@@ -21,6 +21,10 @@ module _ {A : Type 0} where
   sets-append [] ws l i = rw add-zero
   sets-append (a ∷ vs) ws l i = sets-append vs ws (set l i a) (suc i) ∙ rw (suc-add, add-suc)
 
+  -- two runs, the second where the first ends
+  pub sets-joined : (vs ws l : List A) (i j : ℕ) → j ≡ i + length vs → sets (sets l i vs) j ws ≡ sets l i (vs ++ ws)
+  sets-joined vs ws l i j e = rw e (sym (sets-append vs ws l i))
+
   -- what comes after the end may be left out of a run
   pub sets-within : (vs ws l : List A) (i : ℕ) → length l ≤ i + length vs → sets l i (vs ++ ws) ≡ sets l i vs
   sets-within vs ws l i h = sets-append vs ws l i ∙ sets-past ws (sets l i vs) (i + length vs) (omega (arith, length-sets l i vs))

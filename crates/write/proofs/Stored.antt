@@ -3,7 +3,7 @@
 -- Assumes nothing.
 use Prim.Native.Nat.{ℕ, _+_, _-_}
 use mathlib.Core.List.{List, [], _∷_, _++_, append-assoc, flatMap}
-use mathlib.Core.Path.{_≡_, refl, sym, ap, _∙_}
+use mathlib.Core.Path.{_≡_, refl, ap, _∙_}
 use native.Mathlib.Numerals.{add-one}
 use native.Mathlib.Omega.{arith}
 use lib.ListN.{length, replicate, length-append}
@@ -12,7 +12,7 @@ use Rattle.wire.specs.Length.{wireSize}
 use Rattle.wire.specs.Number.{bytesOf}
 use Rattle.wire.specs.Padding.{padding, aligned}
 use Rattle.wire.proofs.NumberLaws.{length-bytesOf}
-use Rattle.wire.proofs.Sets.{sets-append, sets-before}
+use Rattle.wire.proofs.Sets.{sets-joined, sets-before}
 use Rattle.format.specs.Encoding.{u16, u32, terminate, pairEntry, encodeSection, encode}
 use Rattle.format.specs.Sections.{Section}
 use Rattle.format.proofs.Encoding.{length-encode}
@@ -20,14 +20,10 @@ use Rattle.format.proofs.EntryBytes.{unpadded, entryBytes}
 use Rattle.write.specs.Entry.{pair, entryStart}
 use Rattle.write.specs.Section.{contentsHeader}
 
--- two runs, the second where the first ends
-stored : (vs ws l : List ℕ) (i j : ℕ) → j ≡ i + length vs → sets (sets l i vs) j ws ≡ sets l i (vs ++ ws)
-stored vs ws l i j e = rw e (sym (sets-append vs ws l i))
-
 -- a number of so many bytes, and a run where it ends
 number-stored :
     (width n : ℕ) (ws l : List ℕ) (i j : ℕ) → j ≡ i + width → sets (sets l i (bytesOf width n)) j ws ≡ sets l i (bytesOf width n ++ ws)
-number-stored width n ws l i j e = stored (bytesOf width n) ws l i j (omega (arith, length-bytesOf width n))
+number-stored width n ws l i j e = sets-joined (bytesOf width n) ws l i j (omega (arith, length-bytesOf width n))
 
 -- ---- headers
 
@@ -96,8 +92,8 @@ module _ (header : ℕ) (middle : List ℕ) (sum : header ≡ 12 + length middle
       let closed : List ℕ = text ++ replicate (padding (header + wireSize n) + 1) 0 in
       let start : List ℕ = entryStart header n in
       rw (zeros, one-run)
-      (stored middle closed (sets l at start) (at + 12) (at + header) (omega arith) ∙
-      stored start (middle ++ closed) l at (at + 12) (omega (arith, length-start header n)))
+      (sets-joined middle closed (sets l at start) (at + 12) (at + header) (omega arith) ∙
+      sets-joined start (middle ++ closed) l at (at + 12) (omega (arith, length-start header n)))
 
 -- ---- a pair
 
@@ -115,4 +111,4 @@ unfolding pairEntry
 pair-stored l key value at =
     let next : ℕ = at + wireSize (length key) in
     rw (closed key at, closed value next)
-    (stored (terminate key) (terminate value) l at next (omega (arith, length-append key (0 ∷ []))))
+    (sets-joined (terminate key) (terminate value) l at next (omega (arith, length-append key (0 ∷ []))))

@@ -1,0 +1,124 @@
+-- `listing::list` meets its contract: of an accepted payload what the walk finds is the listing, which the second writing stores where there is room.
+-- Assumes nothing.
+use Prim.Native.Nat.{ℕ, _≤_}
+use mathlib.Core.List.{List, []}
+use mathlib.Core.Path.{_≡_, sym, ap, _∙_}
+use native.Mathlib.Nat.{zero-add}
+use native.Mathlib.Omega.{arith}
+use borrow.Author.Needs.{needs}
+use denote.Ref.{now}
+use lib.ListN.{length}
+use lib.Seq.{sets-eq}
+use Rattle.layout.specs.Checked.{fault, good}
+use Rattle.layout.specs.declared.refusal.Refusal.{Refusal}
+use Rattle.layout.specs.declared.refusal.Refusal.the-variants.{NoRoom}
+use Rattle.layout.specs.declared.refusal.Answer.the-variants.{Accepted, Refused}
+use Rattle.layout.proofs.Checked.{after-fault}
+use Rattle.format.specs.Parse.{parse}
+use Rattle.format.specs.Listing.{listed, listAnswer, listOutput}
+use Rattle.format.specs.Lines.{listing}
+use Rattle.format.proofs.LinesFound.{listing-found}
+use Rattle.format.proofs.Output.{refused, no-room, room}
+use Rattle.parse.proofs.Outcomes.{rows-counted, rows-refused}
+use Rattle.wire.proofs.Sets.{sets-past}
+use Rattle.listing.proofs.list.Statement.{statement}
+use Rattle.listing.proofs.list.Tie as tie
+
+-- what the walk over an accepted payload finds
+made : (c : tie.After-enum-told) → (let a = c .before .before .before .before .before .args in listed (now (a .payload)) ≡ good (listing (now (a .payload))))
+made c =
+    let parsed = c .before .before in
+    let a = parsed .before .before .before .args in
+    let (rows, found, many) = rows-counted _ _ (sym (parsed .parse-srci .ensures) ∙ c .enum-told .given .1) in
+    listing-found (now (a .payload)) rows (λ k. omega (arith, parsed .before .before .shared-slice-known .given k)) found
+
+parse-refused : (p : List ℕ) {refusal : Refusal} → parse p ≡ fault refusal → listed p ≡ fault refusal
+unfolding listed
+parse-refused p e = after-fault _ _ e
+
+-- nothing is stored in an output of no bytes
+nothing : (c : tie.After-write-display) → c .write-display .last .1 .0 ≡ []
+nothing c =
+    let a = c .before .before .before .before .before .before .before .args in
+    c .write-display .ensures .1 ∙ sets-past (listing (now (a .payload))) [] 0 (omega arith)
+
+parse-srci-requires : tie.Need-parse-srci-requires
+parse-srci-requires c κs = search needs
+
+enum-known-refusal : tie.Need-enum-known-refusal
+enum-known-refusal c = search needs
+
+enum-told : tie.Need-enum-told
+enum-told c = search needs
+
+slice-relend-prefix-write-display : tie.Need-slice-relend-prefix-write-display
+slice-relend-prefix-write-display c = search needs
+
+slice-aggregate-write-display : tie.Need-slice-aggregate-write-display
+slice-aggregate-write-display c = search needs
+
+write-display-requires : tie.Need-write-display-requires
+write-display-requires c κs = search needs
+
+cast-if1 : tie.Need-cast-if1
+cast-if1 c = search needs
+
+same-length : tie.Need-same-length
+same-length c = search needs
+
+returns : tie.Need-returns
+unfolding listAnswer listOutput
+returns c =
+    let w = c .before .before .before in
+    let told = w .before .before in
+    let a = told .before .before .before .before .before .args in
+    let size = w .write-display .ensures .0 in
+    let short = no-room (listed (now (a .payload))) (now (a .output)) (made told) (omega (arith, size)) in
+    (ap (λ (k : ℕ). Refused (NoRoom k)) size ∙ sym (short .0), rw (nothing w) (sym (short .1)))
+
+write-display-requires-2 : tie.Need-write-display-requires-2
+write-display-requires-2 c κs = search needs
+
+returns-2 : tie.Need-returns-2
+unfolding listAnswer listOutput
+returns-2 c =
+    let p = c .before .before .before in
+    let a = p .before .before .before .args in
+    let told = refused (listed (now (a .payload))) (now (a .output)) (parse-refused (now (a .payload)) (rows-refused _ _ (sym (p .parse-srci .ensures) ∙ c .before .refusal .given .1))) in
+    (sym (told .0), sym (told .1))
+
+same-length-2 : tie.Need-same-length-2
+same-length-2 c = search needs
+
+returns-3 : tie.Need-returns-3
+unfolding listAnswer listOutput
+returns-3 c =
+    let second = c .before .before in
+    let w = second .before .before .before .before .before in
+    let told = w .before .before in
+    let a = told .before .before .before .before .before .args in
+    let size = w .write-display .ensures .0 in
+    let bytes = listing (now (a .payload)) in
+    let fits : length bytes ≤ length (now (a .output)) = omega (arith, size) in
+    let all = room (listed (now (a .payload))) (now (a .output)) (made told) fits in (
+      ap Accepted size ∙ sym (all .0),
+      second .write-display2 .ensures .1 ∙ rw (nothing w) (sets-eq bytes (now (a .output)) 0 (omega arith) ∙ rw zero-add (sym (all .1))),
+    )
+
+pub list-spec : {M : Type 1} → statement M
+list-spec =
+    tie.close
+    (tie.spec
+    parse-srci-requires
+    enum-known-refusal
+    enum-told
+    slice-relend-prefix-write-display
+    slice-aggregate-write-display
+    write-display-requires
+    cast-if1
+    same-length
+    returns
+    write-display-requires-2
+    returns-2
+    same-length-2
+    returns-3)
