@@ -1,5 +1,5 @@
-//! Times `srci_read` against `parse_srci` and `srci_write` against `write_payload`, and how the time of writing
-//! grows, and prints three tables in Markdown.
+//! Times `srci_read` against `parse_srci`, `srci_write` against `write_payload`, and `srci_list` against
+//! `parse_srci` with `Display`, and how the times of writing and of listing grow, and prints tables in Markdown.
 //!
 //! Both get the same payload, which is in memory. `srci_read` fills a table that is large enough and
 //! that was written before. `parse_srci` allocates what it makes; freeing it is not counted. It also
@@ -7,8 +7,11 @@
 //!
 //! Both write the same sections: `srci_write` to an output that is just long enough and that was written
 //! before, `write_payload` to what it allocates.
+//!
+//! Both list the same payload: `srci_list` to an output that is just long enough and that was written before.
+//! The Rust's time is that of `parse_srci`, as above, and of `to_string` on what it gives.
 use crate::boundaries::LIMIT;
-use crate::call::{read, write, UNTOUCHED, UNTOUCHED_BYTE};
+use crate::call::{list, read, write, UNTOUCHED, UNTOUCHED_BYTE};
 use crate::compare::WIDTH;
 use crate::payloads::{arguments, contents, names, payload};
 use crate::rust_rows::rows_of;
@@ -59,35 +62,50 @@ const INPUTS: [Input; 8] = [
 ];
 
 pub fn run() {
-    table("reading", read_row);
-    table("writing", write_row);
-    growth();
+    table("reading", "rows", read_row);
+    table("writing", "rows", write_row);
+    growth("writing", write_time);
+    table("listing", "bytes listed", list_row);
+    growth("listing", list_time);
 }
 
-/// Nanoseconds for each byte of the payload that is written, at each part of the limit.
-fn growth() {
-    println!("| writing, ns a byte | a sixteenth | a quarter | all |");
+/// Nanoseconds for each byte of the payload that is written or listed, at each part of the limit.
+fn growth(job: &str, time: fn(&[u8]) -> Duration) {
+    println!("| {job}, ns a byte | a sixteenth | a quarter | all |");
     println!("|---|--:|--:|--:|");
     for (input, make) in INPUTS {
         let times = PARTS.map(|part| {
             let payload = make(part);
-            let rows = read(&payload, &mut []).second as usize;
-            let mut table = vec![UNTOUCHED; WIDTH * rows];
-            read(&payload, &mut table);
-            let mut output = vec![UNTOUCHED_BYTE; payload.len()];
-            let here = best(|| {
-                let start = Instant::now();
-                black_box(write(&payload, &[], black_box(&table), &mut output));
-                start.elapsed()
-            });
+            let here = time(&payload);
             format!("{:.3}", here.as_secs_f64() * 1e9 / payload.len() as f64)
         });
         println!("| {input} | {} |", times.join(" | "));
     }
 }
 
-fn table(job: &str, row: fn(&str, &[u8])) {
-    println!("| {job} | bytes | rows | Rust ms | here ms | here / Rust |");
+fn write_time(payload: &[u8]) -> Duration {
+    let rows = read(payload, &mut []).second as usize;
+    let mut table = vec![UNTOUCHED; WIDTH * rows];
+    read(payload, &mut table);
+    let mut output = vec![UNTOUCHED_BYTE; payload.len()];
+    best(|| {
+        let start = Instant::now();
+        black_box(write(payload, &[], black_box(&table), &mut output));
+        start.elapsed()
+    })
+}
+
+fn list_time(payload: &[u8]) -> Duration {
+    let mut output = vec![UNTOUCHED_BYTE; list(payload, &mut []).second as usize];
+    best(|| {
+        let start = Instant::now();
+        black_box(list(black_box(payload), &mut output));
+        start.elapsed()
+    })
+}
+
+fn table(job: &str, made: &str, row: fn(&str, &[u8])) {
+    println!("| {job} | bytes | {made} | Rust ms | here ms | here / Rust |");
     println!("|---|--:|--:|--:|--:|--:|");
     for (input, make) in INPUTS {
         let payload = make(1);
@@ -156,9 +174,26 @@ fn write_row(input: &str, payload: &[u8]) {
     print_row(input, payload, rows, rust, here);
 }
 
-fn print_row(input: &str, payload: &[u8], rows: usize, rust: Duration, here: Duration) {
+fn list_row(input: &str, payload: &[u8]) {
+    let text = parse_srci(payload).unwrap().to_string();
+    let mut output = vec![UNTOUCHED_BYTE; text.len()];
+    assert_eq!(list(payload, &mut output).number, 0, "{input}");
+    assert!(output == text.as_bytes(), "{input}");
+    let rust = best(|| {
+        let start = Instant::now();
+        let parsed = black_box(parse_srci(black_box(payload))).unwrap();
+        let text = black_box(parsed.to_string());
+        let took = start.elapsed();
+        drop((parsed, text));
+        took
+    });
+    let here = list_time(payload);
+    print_row(input, payload, text.len(), rust, here);
+}
+
+fn print_row(input: &str, payload: &[u8], made: usize, rust: Duration, here: Duration) {
     println!(
-        "| {input} | {} | {rows} | {:.2} | {:.2} | {:.2} |",
+        "| {input} | {} | {made} | {:.2} | {:.2} | {:.2} |",
         payload.len(),
         rust.as_secs_f64() * 1e3,
         here.as_secs_f64() * 1e3,

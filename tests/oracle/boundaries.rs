@@ -1,10 +1,10 @@
 //! The payloads at the edges: cut short, one off, at the limits.
-use crate::compare::Totals;
+use crate::compare::Compare;
 use crate::payloads::{arguments, contents, names, packed, payload, section, set_length};
 
 pub const LIMIT: usize = 26_214_400;
 
-pub fn compare_all(totals: &mut Totals) {
+pub fn compare_all(totals: &mut impl Compare) {
     samples(totals);
     for payload in small() {
         totals.compare(&payload);
@@ -61,7 +61,7 @@ fn small() -> Vec<Vec<u8>> {
 }
 
 /// Every prefix, as it is and with its length field made right.
-fn cut_short(totals: &mut Totals, payload: &[u8]) {
+fn cut_short(totals: &mut impl Compare, payload: &[u8]) {
     for length in 0..payload.len() {
         let mut cut = payload[..length].to_vec();
         totals.compare(&cut);
@@ -71,7 +71,7 @@ fn cut_short(totals: &mut Totals, payload: &[u8]) {
 }
 
 /// At every place, the byte and the two and four bytes from there on, each changed to what lies at an edge.
-fn fields_changed(totals: &mut Totals, payload: &[u8]) {
+fn fields_changed(totals: &mut impl Compare, payload: &[u8]) {
     for at in 0..payload.len() {
         for width in [1, 2, 4] {
             let Some(field) = payload.get(at..at + width) else {
@@ -110,7 +110,7 @@ fn fields_changed(totals: &mut Totals, payload: &[u8]) {
 }
 
 /// Every two bytes as a name.
-fn two_byte_names(totals: &mut Totals) {
+fn two_byte_names(totals: &mut impl Compare) {
     for first in 0..=255 {
         for second in 0..=255 {
             totals.compare(&payload(&[names(&[(vec![first, second], 3)])]));
@@ -120,7 +120,7 @@ fn two_byte_names(totals: &mut Totals) {
 
 /// Texts of every length up to 72, with something odd at every place: code that takes bytes in blocks
 /// must find it in each place of a block.
-fn marked_texts(totals: &mut Totals) {
+fn marked_texts(totals: &mut impl Compare) {
     let marks: [&[u8]; 6] = [
         b"\0",
         b"\x80",
@@ -144,7 +144,7 @@ fn marked_texts(totals: &mut Totals) {
 }
 
 /// The largest payloads, and those that are longer.
-fn at_the_limit(totals: &mut Totals) {
+fn at_the_limit(totals: &mut impl Compare) {
     // one content of 26,214,351 bytes makes a payload of the greatest length
     let largest = payload(&[contents(0, &[vec![b'a'; LIMIT - 49]])]);
     assert_eq!(largest.len(), LIMIT);
@@ -162,7 +162,7 @@ fn at_the_limit(totals: &mut Totals) {
 }
 
 /// Document 01's samples of reading.
-fn samples(totals: &mut Totals) {
+fn samples(totals: &mut impl Compare) {
     totals.compare_refused(b"", 2);
     totals.compare_refused(&[0; 7], 2);
     totals.compare(&[8, 0, 0, 0, 0, 0, 0, 0]);

@@ -1,4 +1,4 @@
-//! Calls of `srci_read` and `srci_write`, the C entry points.
+//! Calls of `srci_read`, `srci_write` and `srci_list`, the C entry points.
 
 #[link(name = "srci", kind = "static")]
 extern "C" {
@@ -18,6 +18,14 @@ extern "C" {
         edit_length: usize,
         rows: *const u32,
         rows_length: usize,
+        output: *mut u8,
+        output_length: usize,
+        second: *mut u32,
+    ) -> u32;
+
+    fn srci_list(
+        payload: *const u8,
+        payload_length: usize,
         output: *mut u8,
         output_length: usize,
         second: *mut u32,
@@ -55,6 +63,21 @@ pub fn write(payload: &[u8], edit: &[u8], rows: &[u32], output: &mut [u8]) -> An
             edit.len(),
             rows.as_ptr(),
             rows.len(),
+            output.as_mut_ptr(),
+            output.len(),
+            &mut second,
+        )
+    };
+    Answer { number, second }
+}
+
+pub fn list(payload: &[u8], output: &mut [u8]) -> Answer {
+    let mut second = UNTOUCHED;
+    // SAFETY: each pointer and length is that of a slice, and srci_list has no `requires`.
+    let number = unsafe {
+        srci_list(
+            payload.as_ptr(),
+            payload.len(),
             output.as_mut_ptr(),
             output.len(),
             &mut second,
@@ -110,6 +133,23 @@ pub fn write_guarded(
     if before.is_some_and(|(p, e, r)| payload != p || edit != e || rows != r) {
         return Err("the payload, the edit text or the rows were changed");
     }
+    Ok((answer, between_canaries(bytes, lent)?))
+}
+
+/// Lists to an output of some length that has canaries on both sides. Gives the answer and the output
+/// afterwards, or says what else was changed.
+pub fn list_guarded(payload: &[u8], lent: usize) -> Result<(Answer, Vec<u8>), &'static str> {
+    let before = payload.to_vec();
+    let mut bytes = vec![UNTOUCHED_BYTE; CANARIES + lent + CANARIES];
+    let answer = list(payload, &mut bytes[CANARIES..CANARIES + lent]);
+    if payload != before {
+        return Err("the payload was changed");
+    }
+    Ok((answer, between_canaries(bytes, lent)?))
+}
+
+/// An output of some length, if the canaries on both sides of it are as they were.
+fn between_canaries(mut bytes: Vec<u8>, lent: usize) -> Result<Vec<u8>, &'static str> {
     let after = bytes.split_off(CANARIES + lent);
     let output = bytes.split_off(CANARIES);
     if bytes
@@ -119,5 +159,5 @@ pub fn write_guarded(
     {
         return Err("a byte beside the output was changed");
     }
-    Ok((answer, output))
+    Ok(output)
 }

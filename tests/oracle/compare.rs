@@ -4,6 +4,15 @@ use crate::call::{read_guarded, write_guarded, UNTOUCHED};
 use crate::payloads::Random;
 use crate::rust_rows::{parse, Parsed};
 
+/// What a payload is compared by: a job that takes a payload.
+pub trait Compare {
+    /// Compares on one payload, with a buffer for each case that its length makes.
+    fn compare(&mut self, payload: &[u8]);
+
+    /// Compares on one payload, which is refused with a number.
+    fn compare_refused(&mut self, payload: &[u8], expected: u32);
+}
+
 /// How many numbers make a row.
 pub const WIDTH: usize = 7;
 
@@ -30,9 +39,10 @@ impl Totals {
             random: Random::new(!seed),
         }
     }
+}
 
-    /// Compares on one payload, with a table for each case that its length makes.
-    pub fn compare(&mut self, payload: &[u8]) {
+impl Compare for Totals {
+    fn compare(&mut self, payload: &[u8]) {
         self.payloads += 1;
         match parse(payload) {
             Parsed::Rows(rows) => {
@@ -62,15 +72,16 @@ impl Totals {
         }
     }
 
-    /// Compares on one payload, which is refused with a number.
-    pub fn compare_refused(&mut self, payload: &[u8], expected: u32) {
+    fn compare_refused(&mut self, payload: &[u8], expected: u32) {
         self.payloads += 1;
         if expected != 1 && matches!(parse(payload), Parsed::Rows(_)) {
             fail(payload, 0, "the Rust accepts it");
         }
         self.refused(payload, |number| number == expected);
     }
+}
 
+impl Totals {
     fn refused(&mut self, payload: &[u8], is_right: impl Fn(u32) -> bool) {
         for lent in [0, WIDTH, 10 * WIDTH + 1] {
             self.expect(payload, lent, &is_right, 0, &[]);
@@ -149,9 +160,10 @@ impl Totals {
     }
 }
 
-fn fail(payload: &[u8], lent: usize, what: &str) -> ! {
+/// Says what is different in a call on a payload, with a table or an output of some length.
+pub fn fail(payload: &[u8], lent: usize, what: &str) -> ! {
     println!("DIFFERENT: {what}");
-    println!("table: {lent} numbers");
+    println!("lent: {lent}");
     let shown = &payload[..payload.len().min(4096)];
     let hex: String = shown.iter().map(|byte| format!("{byte:02x}")).collect();
     println!("payload: {} bytes, {hex}", payload.len());

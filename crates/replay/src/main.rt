@@ -7,6 +7,7 @@
 // - `write LENT PAYLOAD EDIT ROWS`: how many bytes are lent, the payload, the edit text, and the numbers of
 //   the rows with commas between; `-` is none. Answered: how many bytes of the output were left as they were,
 //   and the stored bytes.
+// - `list LENT PAYLOAD`: how many bytes are lent, and the payload. Answered as a call of writing is.
 // The table has 128 numbers and the output 512 bytes, of which a call is lent the first ones, so that a store
 // past those would show.
 //
@@ -18,6 +19,11 @@
 //   exactly full, one that is longer, and one that is a number short.
 // Of writing: 175 calls worked out by that model, 75 that are accepted and 25 for each of the refusals 11, 12,
 // 17 and 19.
+// Of listing:
+// - 108 calls worked out by that model;
+// - document 01's sample of listing (tests/replay/list_samples.tsv), with three outputs;
+// - 100 calls whose text the published Rust gave (tests/oracle/rows.rs), each payload with an output that is
+//   exactly full, one that is longer, one that is a byte short, and none.
 ghost use Prim.Native.Nat.{_≤_};
 ghost use lib.ListN.{length};
 use layout::Answer;
@@ -234,6 +240,15 @@ fn replay_write<'a>(payload: &'a [u8], edit: &'a [u8], rows: &[u32], lent: usize
     print_output(&output, stored(answer, BYTES));
 }
 
+fn replay_list(payload: &[u8], lent: usize)
+    requires { ⌜ lent ≤ 512 ⌝ }
+{
+    let mut output = [UNTOUCHED_BYTE; BYTES];
+    let answer = listing::list(payload, &mut output[..lent]);
+    print_answer(answer);
+    print_output(&output, stored(answer, BYTES));
+}
+
 // What a call of reading is given, as data/calls.txt has it. Anything else prints nothing.
 fn read_line(fields: &[u8]) {
     let space = find(fields, 0, b' ');
@@ -288,6 +303,22 @@ fn write_line(fields: &[u8]) {
     write_fields(&fields[start..], lent);
 }
 
+// What a call of listing is given, as data/calls.txt has it. Anything else prints nothing.
+fn list_line(fields: &[u8]) {
+    let space = find(fields, 0, b' ');
+    if space == fields.len() {
+        return;
+    }
+    let lent = number(&fields[..space]);
+    if BYTES < lent {
+        return;
+    }
+    let start = space + 1;
+    let mut payload = io::buffer();
+    let count = decode(&fields[start..], &mut payload);
+    replay_list(&payload[..count], lent);
+}
+
 // A call of the job that the line begins with. A line that names no job prints nothing.
 fn replay_line(line: &[u8]) {
     let space = find(line, 0, b' ');
@@ -300,6 +331,9 @@ fn replay_line(line: &[u8]) {
     }
     if check::same(&line[..space], b"write") {
         write_line(&line[start..]);
+    }
+    if check::same(&line[..space], b"list") {
+        list_line(&line[start..]);
     }
 }
 

@@ -58,6 +58,27 @@ part-write-line-end c = search needs
 write-line-requires : tie.Need-write-line-requires
 write-line-requires c κs = search needs
 
+slice-aggregate-same-5 : tie.Need-slice-aggregate-same-5
+slice-aggregate-same-5 c = sym (length-take-le _ _ (omega arith))
+
+slice-aggregate-same-6 : tie.Need-slice-aggregate-same-6
+slice-aggregate-same-6 c = search needs
+
+same-requires-3 : tie.Need-same-requires-3
+same-requires-3 c κs = search needs
+
+sub-list-line : tie.Need-sub-list-line
+sub-list-line c = search needs
+
+part-list-line-start : tie.Need-part-list-line-start
+part-list-line-start c = search needs
+
+part-list-line-end : tie.Need-part-list-line-end
+part-list-line-end c = search needs
+
+list-line-requires : tie.Need-list-line-requires
+list-line-requires c κs = search needs
+
 returns-2 : tie.Need-returns-2
 returns-2 c = search needs
 
@@ -85,5 +106,12 @@ replay-line-spec =
     part-write-line-start
     part-write-line-end
     write-line-requires
+    slice-aggregate-same-5
+    slice-aggregate-same-6
+    same-requires-3
+    sub-list-line
+    part-list-line-start
+    part-list-line-end
+    list-line-requires
     returns-2
     returns-3)
