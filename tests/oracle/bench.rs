@@ -1,5 +1,6 @@
-//! Times `srci_read` against `parse_srci`, `srci_write` against `write_payload`, and `srci_list` against
-//! `parse_srci` with `Display`, and how the times of writing and of listing grow, and prints tables in Markdown.
+//! Times `srci_read` against `parse_srci`, `srci_write` against `write_payload`, `srci_list` against `parse_srci`
+//! with `Display`, and `srci_public_copy` against `parse_srci` with `write_payload`, and how the times of the last
+//! three grow, and prints tables in Markdown.
 //!
 //! Both get the same payload, which is in memory. `srci_read` fills a table that is large enough and
 //! that was written before. `parse_srci` allocates what it makes; freeing it is not counted. It also
@@ -10,12 +11,15 @@
 //!
 //! Both list the same payload: `srci_list` to an output that is just long enough and that was written before.
 //! The Rust's time is that of `parse_srci`, as above, and of `to_string` on what it gives.
+//!
+//! Both copy the same payload: `srci_public_copy` to an output that is just long enough and that was written
+//! before. The Rust's time is that of `parse_srci`, of the edit of the sections, and of `write_payload`.
 use crate::boundaries::LIMIT;
-use crate::call::{list, read, write, UNTOUCHED, UNTOUCHED_BYTE};
+use crate::call::{list, public_copy, read, write, Job, UNTOUCHED, UNTOUCHED_BYTE};
 use crate::compare::WIDTH;
 use crate::payloads::{arguments, contents, names, payload};
+use crate::rust_made::{document, make_public};
 use crate::rust_rows::rows_of;
-use crate::rust_write::document;
 use chunks::srci::parse_srci;
 use chunks::ChunkWriter;
 use std::hint::black_box;
@@ -66,10 +70,12 @@ pub fn run() {
     table("writing", "rows", write_row);
     growth("writing", write_time);
     table("listing", "bytes listed", list_row);
-    growth("listing", list_time);
+    growth("listing", |payload| output_time(list, payload));
+    table("public copies", "bytes of the copy", copy_row);
+    growth("public copies", |payload| output_time(public_copy, payload));
 }
 
-/// Nanoseconds for each byte of the payload that is written or listed, at each part of the limit.
+/// Nanoseconds for each byte of the payload that is written, listed or copied, at each part of the limit.
 fn growth(job: &str, time: fn(&[u8]) -> Duration) {
     println!("| {job}, ns a byte | a sixteenth | a quarter | all |");
     println!("|---|--:|--:|--:|");
@@ -95,11 +101,11 @@ fn write_time(payload: &[u8]) -> Duration {
     })
 }
 
-fn list_time(payload: &[u8]) -> Duration {
-    let mut output = vec![UNTOUCHED_BYTE; list(payload, &mut []).second as usize];
+fn output_time(job: Job, payload: &[u8]) -> Duration {
+    let mut output = vec![UNTOUCHED_BYTE; job(payload, &mut []).second as usize];
     best(|| {
         let start = Instant::now();
-        black_box(list(black_box(payload), &mut output));
+        black_box(job(black_box(payload), &mut output));
         start.elapsed()
     })
 }
@@ -187,8 +193,32 @@ fn list_row(input: &str, payload: &[u8]) {
         drop((parsed, text));
         took
     });
-    let here = list_time(payload);
+    let here = output_time(list, payload);
     print_row(input, payload, text.len(), rust, here);
+}
+
+fn copy_row(input: &str, payload: &[u8]) {
+    let rust_copy = || {
+        let mut parsed = black_box(parse_srci(black_box(payload))).unwrap();
+        let mut sections = std::mem::take(&mut parsed.sections);
+        make_public(&mut sections);
+        let public = document(sections);
+        let copy = black_box(public.write_payload());
+        (copy, parsed, public)
+    };
+    let (copy, ..) = rust_copy();
+    let mut output = vec![UNTOUCHED_BYTE; copy.len()];
+    assert_eq!(public_copy(payload, &mut output).number, 0, "{input}");
+    assert!(output == copy, "{input}");
+    let rust = best(|| {
+        let start = Instant::now();
+        let made = rust_copy();
+        let took = start.elapsed();
+        drop(made);
+        took
+    });
+    let here = output_time(public_copy, payload);
+    print_row(input, payload, copy.len(), rust, here);
 }
 
 fn print_row(input: &str, payload: &[u8], made: usize, rust: Duration, here: Duration) {

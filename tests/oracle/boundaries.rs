@@ -21,7 +21,7 @@ fn bytes(text: &[u8]) -> Vec<u8> {
 }
 
 /// Small well-formed payloads, of every kind of section, whose texts have every padding.
-fn small() -> Vec<Vec<u8>> {
+pub fn small() -> Vec<Vec<u8>> {
     let text = |n: usize| b"abcdefgh"[..n].to_vec();
     let mut all = vec![
         payload(&[]),

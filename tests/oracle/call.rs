@@ -1,4 +1,4 @@
-//! Calls of `srci_read`, `srci_write` and `srci_list`, the C entry points.
+//! Calls of `srci_read`, `srci_write`, `srci_list` and `srci_public_copy`, the C entry points.
 
 #[link(name = "srci", kind = "static")]
 extern "C" {
@@ -24,6 +24,14 @@ extern "C" {
     ) -> u32;
 
     fn srci_list(
+        payload: *const u8,
+        payload_length: usize,
+        output: *mut u8,
+        output_length: usize,
+        second: *mut u32,
+    ) -> u32;
+
+    fn srci_public_copy(
         payload: *const u8,
         payload_length: usize,
         output: *mut u8,
@@ -86,6 +94,21 @@ pub fn list(payload: &[u8], output: &mut [u8]) -> Answer {
     Answer { number, second }
 }
 
+pub fn public_copy(payload: &[u8], output: &mut [u8]) -> Answer {
+    let mut second = UNTOUCHED;
+    // SAFETY: each pointer and length is that of a slice, and srci_public_copy has no `requires`.
+    let number = unsafe {
+        srci_public_copy(
+            payload.as_ptr(),
+            payload.len(),
+            output.as_mut_ptr(),
+            output.len(),
+            &mut second,
+        )
+    };
+    Answer { number, second }
+}
+
 /// What every number of a table, and of the canaries beside it, holds before a call.
 pub const UNTOUCHED: u32 = 0xA5A5_A5A5;
 
@@ -136,12 +159,15 @@ pub fn write_guarded(
     Ok((answer, between_canaries(bytes, lent)?))
 }
 
-/// Lists to an output of some length that has canaries on both sides. Gives the answer and the output
+/// Listing, or making the public copy.
+pub type Job = fn(&[u8], &mut [u8]) -> Answer;
+
+/// Does a job with an output of some length that has canaries on both sides. Gives the answer and the output
 /// afterwards, or says what else was changed.
-pub fn list_guarded(payload: &[u8], lent: usize) -> Result<(Answer, Vec<u8>), &'static str> {
+pub fn guarded(job: Job, payload: &[u8], lent: usize) -> Result<(Answer, Vec<u8>), &'static str> {
     let before = payload.to_vec();
     let mut bytes = vec![UNTOUCHED_BYTE; CANARIES + lent + CANARIES];
-    let answer = list(payload, &mut bytes[CANARIES..CANARIES + lent]);
+    let answer = job(payload, &mut bytes[CANARIES..CANARIES + lent]);
     if payload != before {
         return Err("the payload was changed");
     }

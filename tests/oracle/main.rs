@@ -1,14 +1,18 @@
-//! The oracle: holds `srci_read`, `srci_write` and `srci_list` to the published Rust. run.sh builds it and says
-//! how to call it.
+//! The oracle: holds `srci_read`, `srci_write`, `srci_list` and `srci_public_copy` to the published Rust. run.sh
+//! builds it and says how to call it.
 mod bench;
 mod boundaries;
 mod call;
 mod compare;
+mod copy;
+mod copy_boundaries;
 mod damage;
 mod list;
 mod list_boundaries;
+mod output;
+mod pairs;
 mod payloads;
-mod rust_list;
+mod rust_made;
 mod rust_rows;
 mod rust_write;
 mod tables;
@@ -16,8 +20,9 @@ mod write;
 mod write_boundaries;
 
 use compare::{Compare, Totals};
+use copy::CopyTotals;
 use damage::damage;
-use list::ListTotals;
+use pairs::PairTotals;
 use payloads::{any_payload, Random};
 use write::WriteTotals;
 
@@ -30,6 +35,8 @@ fn main() {
             compare_reading(number(count), number(seed));
             compare_writing(number(count), number(seed));
             compare_listing(number(count), number(seed));
+            compare_copying(number(count), number(seed));
+            compare_pairs(number(count), number(seed));
         }
         _ => usage(),
     }
@@ -69,11 +76,32 @@ fn compare_writing(count: u64, seed: u64) {
 
 /// Every boundary of reading and of its own, then random payloads, others than those of reading.
 fn compare_listing(count: u64, seed: u64) {
-    let mut totals = ListTotals::default();
+    let mut totals = list::totals();
     boundaries::compare_all(&mut totals);
     list_boundaries::compare_all(&mut totals);
     compare_random(&mut totals, count, &mut Random::new(!seed));
     println!("listing");
+    totals.print();
+}
+
+/// Every boundary of reading, of listing and of its own, then random payloads, others than those before.
+fn compare_copying(count: u64, seed: u64) {
+    let mut totals = CopyTotals::new();
+    boundaries::compare_all(&mut totals);
+    list_boundaries::compare_all(&mut totals);
+    copy_boundaries::compare_all(&mut totals);
+    compare_random(&mut totals, count, &mut Random::new(seed ^ 0x00C0_FFEE));
+    println!("public copies");
+    totals.print();
+}
+
+/// Small payloads, then random ones, each beside others.
+fn compare_pairs(count: u64, seed: u64) {
+    let mut totals = PairTotals::default();
+    let mut random = Random::new(seed ^ 0x0DEC_ADE5);
+    totals.compare_small(&mut random);
+    totals.compare_random(count, &mut random);
+    println!("pairs of payloads");
     totals.print();
 }
 

@@ -5,14 +5,15 @@
 //! of the stored rows. Each payload has a table that is exactly full, one that is longer, and one that is a
 //! number short.
 //!
-//! Of listing: the payload in hex, how many bytes are lent, the number, the second number, and the stored bytes
-//! in hex. Each payload has an output that is exactly full, one that is longer, one that is a byte short, and none.
+//! Of listing, and of making public copies: the payload in hex, how many bytes are lent, the number, the second
+//! number, and the stored bytes in hex. Each payload has an output that is exactly full, one that is longer, one
+//! that is a byte short, and none.
 mod payloads;
-mod rust_list;
+mod rust_made;
 mod rust_rows;
 
 use payloads::{any_payload, Random};
-use rust_list::{list, Listed};
+use rust_made::{copy, list, Made};
 use rust_rows::{parse, Parsed};
 
 /// No payload is longer, in bytes.
@@ -34,9 +35,10 @@ fn main() {
         .collect();
     match (words.first().map(String::as_str), &numbers[..]) {
         (Some("rows"), &[count, seed]) => print_reading(count, &mut Random::new(seed)),
-        (Some("listings"), &[count, seed]) => print_listing(count, &mut Random::new(seed)),
+        (Some("listings"), &[count, seed]) => print_made(count, &mut Random::new(seed), list),
+        (Some("copies"), &[count, seed]) => print_made(count, &mut Random::new(seed), copy),
         _ => {
-            eprintln!("usage: rows COUNT SEED | listings COUNT SEED");
+            eprintln!("usage: rows COUNT SEED | listings COUNT SEED | copies COUNT SEED");
             std::process::exit(2);
         }
     }
@@ -62,19 +64,19 @@ fn print_reading(count: u64, random: &mut Random) {
     }
 }
 
-fn print_listing(count: u64, random: &mut Random) {
+fn print_made(count: u64, random: &mut Random, rust: fn(&[u8]) -> Made) {
     println!("# payload (hex)\tbytes lent\tnumber\tsecond number\tbytes stored (hex)");
     let mut printed = 0;
     while printed < count {
         let payload = any_payload(random, 0);
-        let Listed::Text(text) = list(&payload) else {
+        let Made::Bytes(bytes) = rust(&payload) else {
             panic!("the Rust refuses a payload that is well formed");
         };
-        let length = text.len();
+        let length = bytes.len();
         if payload.len() > LONGEST_PAYLOAD || length + 9 > LONGEST_OUTPUT {
             continue;
         }
-        let stored = hex(text.as_bytes());
+        let stored = hex(&bytes);
         print_call(&payload, length, 0, length, &stored);
         print_call(&payload, length + 9, 0, length, &stored);
         print_call(&payload, length - 1, 19, length, "-");

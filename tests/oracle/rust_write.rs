@@ -2,10 +2,11 @@
 //! Rust's `write_payload`.
 use crate::boundaries::LIMIT;
 use crate::compare::WIDTH;
+use crate::rust_made::document;
 use crate::rust_rows::catch;
 use chunks::srci::{
-    parse_srci, SourceArgument, SourceArguments, SourceContent, SourceContentData, SourceContents,
-    SourceInfo, SourceInfoSection, SourceInfoSectionData, SourceName, SourceNames,
+    SourceArgument, SourceArguments, SourceContent, SourceContentData, SourceContents,
+    SourceInfoSection, SourceInfoSectionData, SourceName, SourceNames,
 };
 use chunks::ChunkWriter;
 use std::borrow::Cow;
@@ -31,13 +32,6 @@ pub fn expected(payload: &[u8], edit: &[u8], rows: &[u32]) -> Expected {
         Some(bytes) => Expected::Written(bytes),
         None => Expected::Panicked,
     }
-}
-
-/// A document that keeps no original: `write_payload` writes its sections.
-pub fn document(sections: Vec<SourceInfoSection>) -> SourceInfo {
-    let mut document = parse_srci(&[8, 0, 0, 0, 0, 0, 0, 0]).unwrap();
-    document.sections = sections;
-    document
 }
 
 /// The sections of a table, or the number of its first fault.

@@ -3,17 +3,19 @@ r"""Writes the calls and the expected answers of the program replay.
 
     tests/oracle/run.sh PATH_TO_SRCI_RS rows 300 1 > target/rows.tsv
     tests/oracle/run.sh PATH_TO_SRCI_RS listings 100 2 > target/listings.tsv
+    tests/oracle/run.sh PATH_TO_SRCI_RS copies 100 3 > target/copies.tsv
     tests/replay/make.py read READ read tests/replay/samples.tsv read target/rows.tsv write WRITE \
-        list LIST list tests/replay/list_samples.tsv list target/listings.tsv
+        list LIST list tests/replay/list_samples.tsv list target/listings.tsv \
+        public_copy COPY public_copy target/copies.tsv
 
-The arguments are jobs, each with a list of its calls. READ, WRITE and LIST are the lists of an independent
-model of document 01; they are not in this repository.
+The arguments are jobs, each with a list of its calls. READ, WRITE, LIST and COPY are the lists of an
+independent model of document 01; they are not in this repository.
 
 A list has a call to a line, its fields parted by tabs; '-' is empty, bytes are hex, and lists have commas. A
 line that begins with '#' is passed over. Of reading: the payload, how many numbers are lent, the number,
 the second number, and the numbers of the stored rows. Of writing: the payload, the edit text, the table's
-numbers, how many bytes are lent, the number, the second number, and the stored bytes. Of listing: the
-payload, how many bytes are lent, the number, the second number, and the stored bytes.
+numbers, how many bytes are lent, the number, the second number, and the stored bytes. Of listing, and of
+making public copies: the payload, how many bytes are lent, the number, the second number, and the stored bytes.
 """
 import pathlib
 import sys
@@ -42,13 +44,13 @@ def write(payload, edit, rows, lent, number, second, stored):
     return [lent, payload, edit, rows], [number, second, str(BYTES - len(stored) // 2), stored]
 
 
-def list_payload(payload, lent, number, second, stored):
+def made(payload, lent, number, second, stored):
     payload, stored = payload.replace("-", ""), stored.replace("-", "")
     assert int(lent) <= BYTES and len(payload) <= 2 * LONGEST
     return [lent, payload], [number, second, str(BYTES - len(stored) // 2), stored]
 
 
-JOBS = {"read": read, "write": write, "list": list_payload}
+JOBS = {"read": read, "write": write, "list": made, "public_copy": made}
 
 
 def main(words):

@@ -19,7 +19,7 @@ use Rattle.format.proofs.FrameLaws.{Frame}
 use Rattle.format.proofs.Items.{items-contents, items-names, items-pairs}
 use Rattle.format.proofs.PlacedRows.{rowsOfSection}
 use Rattle.format.proofs.SectionBytes.{filled, SectionAt, stands-section}
-use Rattle.format.proofs.SectionFields.{section-fields, known}
+use Rattle.format.proofs.SectionFields.{section-fields, known-kind}
 use Rattle.format.proofs.SectionLaws.{contents-found, plain-found, names-found, arguments-found}
 use Rattle.format.proofs.Stands.{Stands}
 
@@ -81,7 +81,7 @@ module _ (p : List ℕ) (small : length p ≤ limit) (at : ℕ) where
       Stands p at (encodeSection s) →
       Frame p at (aligned (filled s)) × (Parse.body (u16At p (at + 6)) p at (aligned (filled s)) ≡ good (rowsOfSection at s))
   read-section s ok fit within stand =
-      let g = stands-section p at s within small (known s ok) stand in (
+      let g = stands-section p at s within small (known-kind s ok) stand in (
         record {
           least = omega (arith, le-aligned (filled s));
           multiple = aligned-multiple (filled s);

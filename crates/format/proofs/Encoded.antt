@@ -24,7 +24,7 @@ use Rattle.format.proofs.RowsStand.{sections-say, rows-pass}
 use Rattle.format.proofs.Stands.{Stands, stands-all, stands-after}
 
 -- the sections stand after the main header
-stand : (ss : List Section) → Stands (encode ss) 8 (flatMap encodeSection ss)
+pub stand : (ss : List Section) → Stands (encode ss) 8 (flatMap encodeSection ss)
 unfolding encode
 stand ss =
     let bytes : List ℕ = flatMap encodeSection ss in

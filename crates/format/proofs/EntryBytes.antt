@@ -82,7 +82,7 @@ module _ (header : ℕ) (middle : List ℕ) (sum : header ≡ 12 + length middle
         stands-join p at (unpadded header middle text) _ (at + header + wireSize n) (omega (arith, length-unpadded text)) fields (rw (length-unpadded text) zeros)
 
     -- an entry's bytes, and what reading finds in them
-    stands-fields :
+    pub stands-fields :
         length p ≤ limit →
         checkText text ≡ good tt →
         at + aligned (header + wireSize n) ≤ end →

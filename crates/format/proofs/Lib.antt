@@ -15,6 +15,7 @@ pub mod WalkLaws
 -- Encoding and output
 pub mod Encoding
 pub mod Output
+pub mod MainHeader
 -- What stands at a place: from reading to bytes, and from bytes to reading
 pub mod TextsOk
 pub mod Stands
@@ -39,7 +40,14 @@ pub mod Encoded
 pub mod Promises
 pub mod RoundTrips
 pub mod Renaming
--- The listing by a walk
+-- The public copy, and what a holder of it can learn
+pub mod FactsOf
+pub mod PublicRows
+pub mod FactsFound
+pub mod PublicSections
+pub mod Secrecy
+-- The listing and the public copy, by walks
 pub mod LinesFound
 pub mod PrintLaws
+pub mod CopyFound
 pub mod Samples

@@ -23,7 +23,7 @@ use Rattle.format.proofs.Encoding.{fits-good}
 use Rattle.format.proofs.PayloadStands.{payload-stands}
 use Rattle.format.proofs.RoundTrips.{lists-sections}
 use Rattle.format.proofs.SectionBytes.{filled, length-section, SectionAt, stands-section}
-use Rattle.format.proofs.SectionFields.{Fields, section-fields, known}
+use Rattle.format.proofs.SectionFields.{Fields, section-fields, known-kind}
 use Rattle.format.proofs.Stands.{Stands, stands-first, stands-next}
 
 module _ (p : List ℕ) where
@@ -61,7 +61,7 @@ module _ (p : List ℕ) where
       let spans : length (encodeSection s) ≡ aligned (filled s) = length-section s in
       let sum = length-append (encodeSection s) (flatMap encodeSection ss) in
       let inside : at + aligned (filled s) ≤ length p = omega arith in
-      let g = stands-section p at s inside small (known s ok) (stands-first p at (encodeSection s) (flatMap encodeSection ss) stand) in
+      let g = stands-section p at s inside small (known-kind s ok) (stands-first p at (encodeSection s) (flatMap encodeSection ss) stand) in
       let next : ℕ = at + aligned (filled s) in
       let rest = lines-found small ss next (place + 1) oks others (omega arith) (stands-next p at (encodeSection s) (flatMap encodeSection ss) next (omega arith) stand) in
       rw (g .kind, g .size, line-found at s ok g (section-fields p small at s ok this inside (g .header)), rest)

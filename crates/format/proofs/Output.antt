@@ -1,13 +1,15 @@
 -- A call keeps the length of the output that it was lent; and what it answers and leaves there.
 -- Assumes nothing.
 use Prim.Native.Nat.{ℕ, _≤_, _<_}
+use native.Mathlib.Nat.{zero-add}
 use native.Mathlib.Omega.{arith}
 use mathlib.Core.Bool.{Bool, true, false, cond}
-use mathlib.Core.Path.{_≡_, refl}
+use mathlib.Core.Path.{_≡_, refl, sym, ap, _∙_}
 use mathlib.Core.List.{List, _++_}
 use borrow.Author.Tests.{leb-true, le-leb, lt-leb}
 use lib.Dec.{leb}
 use lib.ListN.{length, drop, length-append, length-drop}
+use lib.Seq.{sets, sets-eq}
 use Rattle.layout.specs.Checked.{Checked, fault, good}
 use Rattle.layout.specs.declared.refusal.Refusal.{Refusal}
 use Rattle.layout.specs.declared.refusal.Refusal.the-variants.{NoRoom}
@@ -42,3 +44,15 @@ module _ (made : Checked (List ℕ)) (output : List ℕ) where
         (answer made (length output) ≡ Accepted (length bytes)) × (stored made output ≡ bytes ++ drop (length bytes) output)
     unfolding answer stored
     room h = (rw (e, le-leb (length bytes) (length output) h), rw (e, le-leb (length bytes) (length output) h))
+
+    -- the same of a call that knows the size: it refuses where that is more than the room, and else stores the bytes from the output's start on
+    module _ (size : ℕ) (is : size ≡ length bytes) where
+      pub told-no-room : length output < size → (Refused (NoRoom size) ≡ answer made (length output)) × (output ≡ stored made output)
+      told-no-room h =
+          let short = no-room (omega arith) in
+          (ap (λ (k : ℕ). Refused (NoRoom k)) is ∙ sym (short .0), sym (short .1))
+
+      pub told-room : size ≤ length output → (Accepted size ≡ answer made (length output)) × (sets output 0 bytes ≡ stored made output)
+      told-room h =
+          let all = room (omega arith) in
+          (ap Accepted is ∙ sym (all .0), sets-eq bytes output 0 (omega arith) ∙ rw zero-add (sym (all .1)))

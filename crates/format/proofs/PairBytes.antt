@@ -25,9 +25,15 @@ use Rattle.format.proofs.PairLaws.{run, length-run, text-well-formed, p
 use Rattle.format.proofs.PlacedRows.{pairAt}
 use Rattle.format.proofs.Stands.{Stands, stands-first, stands-next, stands-join, part-stands, stands-part, length-part, nul-stands}
 
-module _ (p : List ℕ) (at end : ℕ) (inside : end ≤ length p) where
-  -- ---- a text
+-- ---- a text
 
+-- where it stands with its NUL, that is the first one from its place on
+pub nul-found : (p : List ℕ) (at : ℕ) (text : List ℕ) → Text text → Stands p at (terminate text) → untilNul (drop at p) ≡ length text
+nul-found p at text ok s =
+    let after : List ℕ = drop (at + length (terminate text)) p in
+    ap untilNul (s ∙ append-assoc text (0 ∷ []) after) ∙ until-closed text after (ltb-false (untilNul text) (length text) (ok .closed))
+
+module _ (p : List ℕ) (at end : ℕ) (inside : end ≤ length p) where
   pub text-stands : (n : ℕ) → pairText p at end ≡ good n → Stands p at (terminate (part p at n)) × Text (part p at n)
   text-stands n e =
       let (within, until, utf8) = pairText-good p at end n e in
@@ -43,9 +49,7 @@ module _ (p : List ℕ) (at end : ℕ) (inside : end ≤ length p) where
 
   pub stands-text : (text : List ℕ) → Text text → at + wireSize (length text) ≤ end → Stands p at (terminate text) → pairText p at end ≡ good (length text)
   stands-text text ok within s =
-      let after : List ℕ = drop (at + length (terminate text)) p in
-      let whole : untilNul (drop at p) ≡ length text =
-      ap untilNul (s ∙ append-assoc text (0 ∷ []) after) ∙ until-closed text after (ltb-false (untilNul text) (length text) (ok .closed)) in
+      let whole = nul-found p at text ok s in
       let found : untilNul (run p at end) ≡ length text = until-prefix (drop at p) (end - at) (omega (arith, whole)) ∙ whole in
       let this : part p at (length text) ≡ text = stands-part p at text (stands-first p at text (0 ∷ []) s) in
       text-well-formed p at end (omega (arith, found, length-run p at end inside)) (ap (λ (k : ℕ). wellFormed (part p at k)) found ∙ ap wellFormed this ∙ ok .utf8) ∙

@@ -42,9 +42,13 @@ read-sections p small (s ∷ ss) at (ok, oks) fit ends stand =
     let rest = read-sections p small ss (at + size) oks others (omega arith) (stands-next p at (encodeSection s) (flatMap encodeSection ss) (at + size) (omega arith) stand) in
     then-passes _ _ (frame-found p at size frame) (then-passes _ _ found (then-passes _ _ rest (rw spans)))
 
-pub read-payload : (ss : List Section) → All WellFormed ss → fits ss ≡ true → parse (encode ss) ≡ good (rowsFrom 8 ss)
-unfolding parse
-read-payload ss ok fit =
+-- the numbers of the main header, and the sections after it
+pub main-header :
+    (ss : List Section) →
+    fits ss ≡ true →
+    (let p : List ℕ = encode ss in
+    (u32At p 0 ≡ length p) × (u16At p 4 ≡ 0) × (u16At p 6 ≡ length ss) × Stands p 8 (flatMap encodeSection ss))
+main-header ss fit =
     let (few, all-fit, small) = fits-good ss fit in
     let p : List ℕ = encode ss in
     let size = length-encode ss in
@@ -53,9 +57,17 @@ read-payload ss ok fit =
     let (long, h₁) = stands-number p 4 0 4 (8 + length bytes) _ (omega arith) (omega arith) whole in
     let (flags, h₂) = stands-number p 2 4 6 0 _ (omega arith) (omega arith) h₁ in
     let (many, h₃) = stands-number p 2 6 8 (length ss) _ (omega arith) (omega (arith, few)) h₂ in
+    (long ∙ sym size, flags, many, h₃)
+
+pub read-payload : (ss : List Section) → All WellFormed ss → fits ss ≡ true → parse (encode ss) ≡ good (rowsFrom 8 ss)
+unfolding parse
+read-payload ss ok fit =
+    let (few, all-fit, small) = fits-good ss fit in
+    let (long, flags, many, stand) = main-header ss fit in
+    let p : List ℕ = encode ss in
     check-passes _ _ _ (le-leb (length p) limit small)
     (check-passes _ _ _ (le-leb 8 (length p) (encode-least ss))
     (check-passes _ _ _ (eq-eqb (length p % 4) 0 (encode-multiple ss))
-    (check-passes _ _ _ (eq-eqb (u32At p 0) (length p) (long ∙ sym size))
+    (check-passes _ _ _ (eq-eqb (u32At p 0) (length p) long)
     (check-passes _ _ _ (eq-eqb (u16At p 4) 0 flags)
-    (rw many (read-sections p small ss 8 ok all-fit (sym size) h₃))))))
+    (rw many (read-sections p small ss 8 ok all-fit (sym (length-encode ss)) stand))))))

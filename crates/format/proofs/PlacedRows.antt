@@ -14,8 +14,12 @@ use Rattle.format.specs.Sections.{Name, Pair, Section, plain, packed, na
 abbrev pub contentAt : ℕ → List ℕ → Row
 contentAt at text = row 5 0 (at + 12) (length text) 0 0 0
 
+-- a name, with the content size that `size` gives it
+abbrev pub sizedAt : (Name → ℕ) → ℕ → Name → Row
+sizedAt size at n = row 6 0 (at + 16) (length (n .text)) (size n) 0 0
+
 abbrev pub nameAt : ℕ → Name → Row
-nameAt at n = row 6 0 (at + 16) (length (n .text)) (n .contentSize) 0 0
+nameAt = sizedAt (λ n. n .contentSize)
 
 abbrev pub pairAt : ℕ → Pair → Row
 pairAt at x = row 7 0 at (length (x .name)) (at + wireSize (length (x .name))) (length (x .value)) 0

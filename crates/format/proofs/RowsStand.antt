@@ -1,8 +1,8 @@
 -- The rows of sections that stand in a payload say just these sections, and obey the rules of rows, whatever the edit text.
 -- Assumes nothing.
-use Prim.Native.Nat.{ℕ, _+_, _%_, _≤_}
+use Prim.Native.Nat.{ℕ, _+_, _%_, _≤_, _<_}
 use mathlib.Core.Bool.{true}
-use mathlib.Core.List.{List, [], _∷_, _++_, flatMap}
+use mathlib.Core.List.{List, [], _∷_, _++_, map, flatMap, map-id}
 use mathlib.Core.Path.{_≡_, refl, ap, ap₂, _∙_}
 use native.Mathlib.Omega.{arith}
 use borrow.Author.Tests.{le-leb, eq-eqb}
@@ -22,7 +22,7 @@ use Rattle.format.specs.Sections.{Name, Pair, Section, plain, packed, na
 use Rattle.format.specs.WellFormed.{All, Text, NameOk, PairOk, WellFormed}
 use Rattle.format.proofs.Encoding.{length-contentEntry, length-nameEntry, length-pairEntry}
 use Rattle.format.proofs.EntryBytes.{content-is, name-is, name-header, entry-text}
-use Rattle.format.proofs.PlacedRows.{contentAt, nameAt, pairAt, rowsOfRun, rowsOfSection, rowsFrom}
+use Rattle.format.proofs.PlacedRows.{contentAt, sizedAt, nameAt, pairAt, rowsOfRun, rowsOfSection, rowsFrom}
 use Rattle.format.proofs.RowsByTag.{leading-more, leading-ends}
 use Rattle.format.proofs.SectionBytes.{start, filled, length-section, section-stored}
 use Rattle.format.proofs.Stands.{Stands, stands-first, stands-next, stands-part, stands-within}
@@ -47,91 +47,82 @@ module _ (p : List ℕ) (at : ℕ) where
         stands-first p (at + wireSize (length name)) value (0 ∷ []) (stands-next p at (terminate name) (terminate value) _ there s),
       )
 
-module _ (p edit : List ℕ) where
-  -- ---- what the rows say
+-- ---- what the rows say
 
-  -- the row of an item that stands has a tag that begins no section, and says the item
-  abbrev Says : {A : Type 0} → ℕ → (A → List ℕ) → (ℕ → A → Row) → (Row → A) → Type 0
-  Says {A} tag bytes rowAt f =
+-- no rows, or first a section's, which is no entry of a section before
+abbrev pub Opens : List Row → Type 0
+Opens [] = Unit {0}
+Opens (r ∷ rows) = r .tag < 5
+
+none-leads : {A : Type 0} (tag : ℕ) (f : Row → A) → 5 ≤ tag → (rows : List Row) → Opens rows → leading tag f rows ≡ []
+none-leads tag f high [] opens = unfold leading in refl
+none-leads tag f high (r ∷ rows) opens = leading-ends tag f r rows (λ q. omega arith)
+
+rows-open : (at : ℕ) (ss : List Section) → Opens (rowsFrom at ss)
+unfolding rowsFrom rowsOfSection
+rows-open at [] = tt
+rows-open at (plain header texts ∷ ss) = omega arith
+rows-open at (packed header stream count uncompressed ∷ ss) = omega arith
+rows-open at (names ns ∷ ss) = omega arith
+rows-open at (arguments xs ∷ ss) = omega arith
+rows-open at (unknown kind bytes ∷ ss) = omega arith
+
+module _ (p edit : List ℕ) where
+  -- the row of an item that stands has a tag that begins no section, and says what g makes of the item
+  abbrev pub Says : {A : Type 0} → ℕ → (A → List ℕ) → (ℕ → A → Row) → (Row → A) → (A → A) → Type 0
+  Says {A} tag bytes rowAt f g =
       (at : ℕ) (a : A) →
       Stands p at (bytes a) →
-      (rowAt at a .tag ≡ tag) × (f (rowAt at a) ≡ a) × ((rows : List Row) → begun p edit (rowAt at a .tag) (rowAt at a) rows ≡ [])
+      (rowAt at a .tag ≡ tag) × (f (rowAt at a) ≡ g a) × ((rows : List Row) → begun p edit (rowAt at a .tag) (rowAt at a) rows ≡ [])
 
-  content-says : Says 5 contentEntry contentAt (contentOf p edit)
+  content-says : Says 5 contentEntry contentAt (contentOf p edit) (λ text. text)
   unfolding begun sideOf
   content-says at text s = (refl, stands-part p (at + 12) text (content-text p at text s), λ rows. refl)
 
-  name-says : Says 6 nameEntry nameAt (nameOf p edit)
+  pub name-says : (size : Name → ℕ) → Says 6 nameEntry (sizedAt size) (nameOf p edit) (λ (x : Name). record { text = x .text; contentSize = size x })
   unfolding begun sideOf
-  name-says at x s = (refl, rw (stands-part p (at + 16) (x .text) (name-text p at x s)), λ rows. refl)
+  name-says size at x s = (refl, rw (stands-part p (at + 16) (x .text) (name-text p at x s)), λ rows. refl)
 
-  pair-says : Says 7 pairEntry pairAt (pairOf p edit)
+  pair-says : Says 7 pairEntry pairAt (pairOf p edit) (λ x. x)
   unfolding begun sideOf
   pair-says at x s =
       let (name, value) = pair-texts p at x s in
       (refl, rw (stands-part p at (x .name) name, stands-part p (at + wireSize (length (x .name))) (x .value) value), λ rows. refl)
 
-  module _ {A : Type 0} (tag : ℕ) (bytes : A → List ℕ) (rowAt : ℕ → A → Row) (f : Row → A) (item : Says tag bytes rowAt f) where
-    run-leads :
-        (items : List A) (at : ℕ) (rest : List Row) →
+  -- rows of items before those of sections say the items, and begin no section
+  module _ {A : Type 0} (tag : ℕ) (high : 5 ≤ tag) (bytes : A → List ℕ) (rowAt : ℕ → A → Row) (f : Row → A) (g : A → A) (item : Says tag bytes rowAt f g) (rest : List Row) (opens : Opens rest) where
+    pub run-says :
+        (items : List A) (at : ℕ) →
         Stands p at (flatMap bytes items) →
-        leading tag f rest ≡ [] →
-        leading tag f (rowsOfRun bytes rowAt at items ++ rest) ≡ items
-    unfolding flatMap rowsOfRun
-    run-leads [] at rest s none = none
-    run-leads (a ∷ items) at rest s none =
-        let (tagged, same, begins) = item at a (stands-first p at (bytes a) (flatMap bytes items) s) in
-        let others = run-leads items (at + length (bytes a)) rest (stands-next p at (bytes a) (flatMap bytes items) _ refl s) none in
-        leading-more tag f (rowAt at a) _ tagged ∙ ap₂ (λ (x : A) (l : List A). x ∷ l) same others
-
-    run-begins-none :
-        (items : List A) (at : ℕ) (rest : List Row) →
-        Stands p at (flatMap bytes items) →
-        sectionsOf p edit (rowsOfRun bytes rowAt at items ++ rest) ≡ sectionsOf p edit rest
+        (leading tag f (rowsOfRun bytes rowAt at items ++ rest) ≡ map g items)
+        × (sectionsOf p edit (rowsOfRun bytes rowAt at items ++ rest) ≡ sectionsOf p edit rest)
     unfolding flatMap rowsOfRun sectionsOf
-    run-begins-none [] at rest s = refl
-    run-begins-none (a ∷ items) at rest s =
+    run-says [] at s = (none-leads tag f high rest opens, refl)
+    run-says (a ∷ items) at s =
         let (tagged, same, begins) = item at a (stands-first p at (bytes a) (flatMap bytes items) s) in
-        rw (begins (rowsOfRun bytes rowAt (at + length (bytes a)) items ++ rest))
-        (run-begins-none items (at + length (bytes a)) rest (stands-next p at (bytes a) (flatMap bytes items) _ refl s))
+        let (leads, others) = run-says items (at + length (bytes a)) (stands-next p at (bytes a) (flatMap bytes items) _ refl s) in (
+          leading-more tag f (rowAt at a) _ tagged ∙ ap₂ (λ (x : A) (l : List A). x ∷ l) same leads,
+          rw (begins (rowsOfRun bytes rowAt (at + length (bytes a)) items ++ rest)) others,
+        )
 
-  -- a section's row is no entry of the section before
-  none-leads : {A : Type 0} (tag : ℕ) (f : Row → A) → 5 ≤ tag → (at : ℕ) (ss : List Section) → leading tag f (rowsFrom at ss) ≡ []
-  unfolding rowsFrom rowsOfSection
-  none-leads tag f high at [] = unfold leading in refl
-  none-leads tag f high at (plain header texts ∷ ss) = leading-ends tag f _ _ (λ q. omega arith)
-  none-leads tag f high at (packed header stream count uncompressed ∷ ss) = leading-ends tag f _ _ (λ q. omega arith)
-  none-leads tag f high at (names ns ∷ ss) = leading-ends tag f _ _ (λ q. omega arith)
-  none-leads tag f high at (arguments xs ∷ ss) = leading-ends tag f _ _ (λ q. omega arith)
-  none-leads tag f high at (unknown kind bytes ∷ ss) = leading-ends tag f _ _ (λ q. omega arith)
-
-  -- a section's rows before those of other sections
-  module _ (at next : ℕ) (ss : List Section) where
-    abbrev rest : List Row
-    rest = rowsFrom next ss
-
-    section-says : (s : Section) → Stands p at (encodeSection s) → sectionsOf p edit (rowsOfSection at s ++ rest) ≡ s ∷ sectionsOf p edit rest
+  -- a section's rows before those of others
+  module _ (at : ℕ) (rest : List Row) (opens : Opens rest) where
+    pub section-says : (s : Section) → Stands p at (encodeSection s) → sectionsOf p edit (rowsOfSection at s ++ rest) ≡ s ∷ sectionsOf p edit rest
     unfolding rowsOfSection sectionsOf begun storedBytes sideOf
     section-says (plain header texts) s =
         let run = section-stored (plain header texts) p at s in
-        rw (
-          run-leads 5 contentEntry contentAt (contentOf p edit) content-says texts (at + 28) rest run (none-leads 5 (contentOf p edit) (omega arith) next ss),
-          run-begins-none 5 contentEntry contentAt (contentOf p edit) content-says texts (at + 28) rest run,
-        )
+        let (leads, others) = run-says 5 (omega arith) contentEntry contentAt (contentOf p edit) _ content-says rest opens texts (at + 28) run in
+        rw (leads, map-id, others)
     section-says (packed header stream count uncompressed) s =
         rw (stands-part p (at + 28) stream (section-stored (packed header stream count uncompressed) p at s))
     section-says (names ns) s =
         let run = section-stored (names ns) p at s in
-        rw (
-          run-leads 6 nameEntry nameAt (nameOf p edit) name-says ns (at + 18) rest run (none-leads 6 (nameOf p edit) (omega arith) next ss),
-          run-begins-none 6 nameEntry nameAt (nameOf p edit) name-says ns (at + 18) rest run,
-        )
+        let (leads, others) = run-says 6 (omega arith) nameEntry nameAt (nameOf p edit) _ (name-says (λ n. n .contentSize)) rest opens ns (at + 18) run in
+        rw (leads, map-id, others)
     section-says (arguments xs) s =
         let run = section-stored (arguments xs) p at s in
-        rw (
-          run-leads 7 pairEntry pairAt (pairOf p edit) pair-says xs (at + 20) rest run (none-leads 7 (pairOf p edit) (omega arith) next ss),
-          run-begins-none 7 pairEntry pairAt (pairOf p edit) pair-says xs (at + 20) rest run,
-        )
+        let (leads, others) = run-says 7 (omega arith) pairEntry pairAt (pairOf p edit) _ pair-says rest opens xs (at + 20) run in
+        rw (leads, map-id, others)
     section-says (unknown kind bytes) s = rw (stands-part p (at + 8) bytes (section-stored (unknown kind bytes) p at s))
 
   pub sections-say : (ss : List Section) (at : ℕ) → Stands p at (flatMap encodeSection ss) → sectionsOf p edit (rowsFrom at ss) ≡ ss
@@ -139,7 +130,7 @@ module _ (p edit : List ℕ) where
   sections-say [] at s = unfold sectionsOf in refl
   sections-say (t ∷ ss) at s =
       let next : ℕ = at + length (encodeSection t) in
-      section-says at next ss t (stands-first p at (encodeSection t) (flatMap encodeSection ss) s) ∙
+      section-says at (rowsFrom next ss) (rows-open next ss) t (stands-first p at (encodeSection t) (flatMap encodeSection ss) s) ∙
       ap (λ (l : List Section). t ∷ l) (sections-say ss next (stands-next p at (encodeSection t) (flatMap encodeSection ss) next refl s))
 
   -- ---- that they obey the rules
@@ -148,7 +139,7 @@ module _ (p edit : List ℕ) where
   abbrev Passes : ℕ → Row → Type 0
   Passes previous r = (obeys p edit previous r ≡ true) × (checkTexts (textsOf (r .tag) (sideOf (r .side) p edit) r) ≡ good tt)
 
-  passes-first :
+  pub passes-first :
       (previous : ℕ) (r : Row) (rows : List Row) →
       Passes previous r →
       checkRows p edit (r .tag) rows ≡ good tt →
@@ -157,7 +148,7 @@ module _ (p edit : List ℕ) where
   passes-first previous r rows (rule, texts) rest = then-passes _ _ (check-passes _ _ _ rule texts) rest
 
   -- the row of an item that stands passes after its section's row, and after a row of its own tag
-  abbrev Follows : {A : Type 0} → ℕ → ℕ → (A → List ℕ) → (ℕ → A → Row) → (A → Type 0) → Type 0
+  abbrev pub Follows : {A : Type 0} → ℕ → ℕ → (A → List ℕ) → (ℕ → A → Row) → (A → Type 0) → Type 0
   Follows {A} section own bytes rowAt Ok =
       (previous at : ℕ) (a : A) →
       follows section own previous ≡ true →
@@ -181,9 +172,9 @@ module _ (p edit : List ℕ) where
       let within = text-inside (at + 12) text t (omega (arith, length-contentEntry text, le-aligned (12 + wireSize (length text)))) in
       ((rw (after, within), then-passes _ _ (text-passes (at + 12) text t ok) refl), refl)
 
-  name-follows : Follows 2 6 nameEntry nameAt NameOk
+  pub name-follows : (size : Name → ℕ) → Follows 2 6 nameEntry (sizedAt size) NameOk
   unfolding obeys tagRule textsOf checkTexts sideOf allZero
-  name-follows previous at x after ok room s =
+  name-follows size previous at x after ok room s =
       let t = name-text p at x s in
       let within = text-inside (at + 16) (x .text) t (omega (arith, length-nameEntry x, le-aligned (16 + wireSize (length (x .text))))) in
       ((rw (after, within), then-passes _ _ (text-passes (at + 16) (x .text) t (ok .text)) refl), refl)
@@ -200,7 +191,7 @@ module _ (p edit : List ℕ) where
       ((rw (after, name-within, value-within), texts), refl)
 
   module _ {A : Type 0} (section own : ℕ) (bytes : A → List ℕ) (rowAt : ℕ → A → Row) (Ok : A → Type 0) (item : Follows section own bytes rowAt Ok) where
-    run-passes :
+    pub run-passes :
         (after : List Row) →
         ((previous : ℕ) → checkRows p edit previous after ≡ good tt) →
         (items : List A) (previous at : ℕ) →
@@ -218,10 +209,10 @@ module _ (p edit : List ℕ) where
         (run-passes after passes items (rowAt at a .tag) (at + length (bytes a)) next oks (omega arith) (stands-next p at (bytes a) (flatMap bytes items) _ refl s))
 
   -- the stored bytes end before the section does
-  stored-within : (s : Section) (at : ℕ) → at + length (encodeSection s) ≤ length p → at + start s + length (storedBytes s) ≤ length p
+  pub stored-within : (s : Section) (at : ℕ) → at + length (encodeSection s) ≤ length p → at + start s + length (storedBytes s) ≤ length p
   stored-within s at room = omega (arith, length-section s, le-aligned (filled s))
 
-  section-passes :
+  pub section-passes :
       (s : Section) (at : ℕ) (after : List Row) →
       WellFormed s →
       at + length (encodeSection s) ≤ length p →
@@ -239,7 +230,7 @@ module _ (p edit : List ℕ) where
   section-passes (names ns) at after ok room s passes previous =
       let fits = stored-within (names ns) at room in
       passes-first previous _ _ (refl, refl)
-      (run-passes 2 6 nameEntry nameAt NameOk name-follows after passes ns 2 (at + 18) refl ok fits (section-stored (names ns) p at s))
+      (run-passes 2 6 nameEntry nameAt NameOk (name-follows (λ n. n .contentSize)) after passes ns 2 (at + 18) refl ok fits (section-stored (names ns) p at s))
   section-passes (arguments xs) at after ok room s passes previous =
       let fits = stored-within (arguments xs) at room in
       passes-first previous _ _ (refl, refl)

@@ -29,13 +29,13 @@ names-many = flatMap-least nameEntry (λ n. omega (arith, length-nameEntry n, le
 pairs-many : (xs : List Pair) → length xs ≤ length (flatMap pairEntry xs)
 pairs-many = flatMap-least pairEntry (λ x. omega (arith, length-pairEntry x))
 
-pub known : (s : Section) → WellFormed s → kindOf s < 65536
+pub known-kind : (s : Section) → WellFormed s → kindOf s < 65536
 unfolding kindOf
-known (plain header texts) ok = omega arith
-known (packed header stream count uncompressed) ok = omega arith
-known (names ns) ok = omega arith
-known (arguments xs) ok = omega arith
-known (unknown kind bytes) ok = omega (arith, ok .1)
+known-kind (plain header texts) ok = omega arith
+known-kind (packed header stream count uncompressed) ok = omega arith
+known-kind (names ns) ok = omega arith
+known-kind (arguments xs) ok = omega arith
+known-kind (unknown kind bytes) ok = omega (arith, ok .1)
 
 -- the numbers of a section's body header
 abbrev pub Fields : List ℕ → ℕ → Section → Type 0

@@ -2,10 +2,11 @@
 -- Assumes nothing.
 use Prim.Native.Nat.{ℕ}
 use mathlib.Core.Bool.{not}
-use mathlib.Core.List.{List}
+use mathlib.Core.List.{List, []}
 use mathlib.Core.Path.{_≡_, refl, ap}
 use borrow.Author.Tests.{not-true}
-use Rattle.wire.specs.Nul.{hasNul}
+use Rattle.wire.specs.Nul.{untilNul, hasNul}
+use Rattle.utf8.proofs.Laws.{empty}
 use Rattle.layout.specs.Checked.{good}
 use Rattle.layout.specs.TextCheck.{checkText}
 use Rattle.layout.proofs.Checked.{check-good, check-passes}
@@ -21,3 +22,7 @@ text-ok s e =
 pub ok-text : (s : List ℕ) → Text s → checkText s ≡ good tt
 unfolding checkText
 ok-text s ok = check-passes _ _ _ (ok .utf8) (check-passes _ _ _ (ap not (ok .closed)) refl)
+
+pub empty-text : Text []
+unfolding untilNul
+empty-text = record { utf8 = empty; closed = refl }

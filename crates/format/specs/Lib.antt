@@ -22,6 +22,8 @@ pub mod Samples
 -- What follows from the definitions
 pub mod Promises
 pub mod RoundTrips
+pub mod Secrecy
 -- How a second pass goes over a payload
 pub mod Walk
 pub mod Lines
+pub mod CopyWalk

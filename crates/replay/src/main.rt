@@ -7,7 +7,8 @@
 // - `write LENT PAYLOAD EDIT ROWS`: how many bytes are lent, the payload, the edit text, and the numbers of
 //   the rows with commas between; `-` is none. Answered: how many bytes of the output were left as they were,
 //   and the stored bytes.
-// - `list LENT PAYLOAD`: how many bytes are lent, and the payload. Answered as a call of writing is.
+// - `list LENT PAYLOAD` and `public_copy LENT PAYLOAD`: how many bytes are lent, and the payload. Answered as a
+//   call of writing is.
 // The table has 128 numbers and the output 512 bytes, of which a call is lent the first ones, so that a store
 // past those would show.
 //
@@ -24,6 +25,9 @@
 // - document 01's sample of listing (tests/replay/list_samples.tsv), with three outputs;
 // - 100 calls whose text the published Rust gave (tests/oracle/rows.rs), each payload with an output that is
 //   exactly full, one that is longer, one that is a byte short, and none.
+// Of making public copies:
+// - 108 calls worked out by that model;
+// - 100 calls whose copy the published Rust wrote (tests/oracle/rows.rs), with outputs as for those of listing.
 ghost use Prim.Native.Nat.{_≤_};
 ghost use lib.ListN.{length};
 use layout::Answer;
@@ -240,11 +244,20 @@ fn replay_write<'a>(payload: &'a [u8], edit: &'a [u8], rows: &[u32], lent: usize
     print_output(&output, stored(answer, BYTES));
 }
 
-fn replay_list(payload: &[u8], lent: usize)
+// The public copy, or else the listing: both take a payload and an output.
+fn copy_or_list(payload: &[u8], output: &mut [u8], is_copy: bool) -> Answer {
+    if is_copy {
+        public_copy::public_copy(payload, output)
+    } else {
+        listing::list(payload, output)
+    }
+}
+
+fn replay_copy_or_list(payload: &[u8], lent: usize, is_copy: bool)
     requires { ⌜ lent ≤ 512 ⌝ }
 {
     let mut output = [UNTOUCHED_BYTE; BYTES];
-    let answer = listing::list(payload, &mut output[..lent]);
+    let answer = copy_or_list(payload, &mut output[..lent], is_copy);
     print_answer(answer);
     print_output(&output, stored(answer, BYTES));
 }
@@ -303,8 +316,8 @@ fn write_line(fields: &[u8]) {
     write_fields(&fields[start..], lent);
 }
 
-// What a call of listing is given, as data/calls.txt has it. Anything else prints nothing.
-fn list_line(fields: &[u8]) {
+// What a call of copying or of listing is given, as data/calls.txt has it. Anything else prints nothing.
+fn copy_or_list_line(fields: &[u8], is_copy: bool) {
     let space = find(fields, 0, b' ');
     if space == fields.len() {
         return;
@@ -316,7 +329,7 @@ fn list_line(fields: &[u8]) {
     let start = space + 1;
     let mut payload = io::buffer();
     let count = decode(&fields[start..], &mut payload);
-    replay_list(&payload[..count], lent);
+    replay_copy_or_list(&payload[..count], lent, is_copy);
 }
 
 // A call of the job that the line begins with. A line that names no job prints nothing.
@@ -332,8 +345,9 @@ fn replay_line(line: &[u8]) {
     if check::same(&line[..space], b"write") {
         write_line(&line[start..]);
     }
-    if check::same(&line[..space], b"list") {
-        list_line(&line[start..]);
+    let is_copy = check::same(&line[..space], b"public_copy");
+    if is_copy || check::same(&line[..space], b"list") {
+        copy_or_list_line(&line[start..], is_copy);
     }
 }
 

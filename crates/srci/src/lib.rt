@@ -8,6 +8,8 @@ ghost use Rattle.layout.specs.Refusals.{answerNumber, answerSecond};
 ghost use Rattle.format.specs.Read.{readAnswer, readTable};
 ghost use Rattle.format.specs.Write.{writeAnswer, writeOutput};
 ghost use Rattle.format.specs.Listing.{listAnswer, listOutput};
+ghost use Rattle.format.specs.PublicCopy.{copyAnswer, copyOutput};
+ghost use Rattle.srci.specs.Secrecy.{Called};
 use layout::Answer;
 
 // An answer as C has it: 0 with the rows or bytes stored in `second`, or the refusal's number with its second number.
@@ -66,5 +68,19 @@ pub extern "C" fn srci_list(payload: &[u8], output: &mut [u8], second: &mut u32)
     ensures { λ _. ⌜ now (second .exit) ≡ answerSecond (listAnswer (now (payload .entry)) (length (now (output .entry)))) ⌝ }
 {
     let answer = listing::list(payload, output);
+    tell(answer, second)
+}
+
+// Writes the public copy of a payload to a lent output. Answers 0, or the refusal's number. Stores in `second` how
+// many bytes were stored, or the refusal's second number. The last clause is the other three in one, for
+// `CallsTellFacts` (specs/Secrecy.antt), which says what the call tells of a payload.
+#[no_mangle]
+pub extern "C" fn srci_public_copy(payload: &[u8], output: &mut [u8], second: &mut u32) -> u32
+    ensures { λ r. ⌜ r ≡ answerNumber (copyAnswer (now (payload .entry)) (length (now (output .entry)))) ⌝ }
+    ensures { λ _. ⌜ now (output .exit) ≡ copyOutput (now (payload .entry)) (now (output .entry)) ⌝ }
+    ensures { λ _. ⌜ now (second .exit) ≡ answerSecond (copyAnswer (now (payload .entry)) (length (now (output .entry)))) ⌝ }
+    ensures { λ r. ⌜ Called (now (payload .entry)) (now (output .entry)) r (now (output .exit)) (now (second .exit)) ⌝ }
+{
+    let answer = public_copy::public_copy(payload, output);
     tell(answer, second)
 }

@@ -1,6 +1,6 @@
 -- The laws of little-endian numbers: over the width, and from them the bytes of the two widths that the code has.
 -- Assumes nothing.
-use mathlib.Core.Path.{_≡_, refl, ap}
+use mathlib.Core.Path.{_≡_, refl, ap, _∙_}
 use mathlib.Core.List.{List, [], _∷_, _++_}
 use Prim.Native.Nat.{ℕ, zero, suc, _+_, _*_, _/_, _%_, _^_, _≤_, _<_}
 use native.Mathlib.Nat.{zero-add, suc-add, mul-zero, one-mul, pow-suc, pow-succ', mul-assoc, add-assoc, le-of-suc-le-suc, not-suc-le-zero, mod-add-div, div-lt-iff-lt-mul, div-div-eq-div-mul, one-le-pow, mod-lt, div-one}
@@ -11,7 +11,7 @@ use lib.Dec.{lit<}
 use lib.ListN.{length, getD, take, drop, drop-of-length-le}
 use lib.Seq.{sets, drop-append-add, drop-drop}
 use Rattle.wire.specs.Number.{byteAt, littleEndian, u16At, u32At, bytesOf}
-use Rattle.wire.proofs.Sets.{sets-append}
+use Rattle.wire.proofs.Sets.{sets-append, sets-joined}
 
 -- ---- reading
 
@@ -117,3 +117,19 @@ write-back (suc w) (b ∷ s) h l =
     let m : (b + 256 * littleEndian w s) % 256 ≡ b = omega arith in
     let d : (b + 256 * littleEndian w s) / 256 ≡ littleEndian w s = omega arith in
     rw (m, d) (ap (λ (t : List ℕ). b ∷ t) (write-back w s (λ k. h (suc k)) (le-of-suc-le-suc l)))
+
+-- ---- stored one after the other
+
+-- a number of so many bytes, and a run where it ends
+pub number-stored :
+    (width n : ℕ) (ws l : List ℕ) (i j : ℕ) → j ≡ i + width → sets (sets l i (bytesOf width n)) j ws ≡ sets l i (bytesOf width n ++ ws)
+number-stored width n ws l i j e = sets-joined (bytesOf width n) ws l i j (omega (arith, length-bytesOf width n))
+
+-- a number of four bytes, one of so many where it ends, and a run after both
+pub fields-stored :
+    (first width second : ℕ) (third l : List ℕ) (i j k : ℕ) →
+    j ≡ i + 4 →
+    k ≡ j + width →
+    sets (sets (sets l i (bytesOf 4 first)) j (bytesOf width second)) k third ≡ sets l i (bytesOf 4 first ++ (bytesOf width second ++ third))
+fields-stored first width second third l i j k e f =
+    number-stored width second third (sets l i (bytesOf 4 first)) j k f ∙ number-stored 4 first _ l i j e

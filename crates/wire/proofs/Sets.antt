@@ -8,7 +8,7 @@ use native.Mathlib.Numerals.{add-one}
 use native.Mathlib.Omega.{arith}
 use native.Mathlib.Decide.{decLe}
 use lib.ListN.{length, getD, take, drop, set, replicate, length-replicate, replicate-append-replicate, take-append-drop}
-use lib.Seq.{sets, length-sets, length-take-le, set-out, take-length, take-suc, set-comm}
+use lib.Seq.{sets, length-sets, length-take-le, set-out, take-length, take-suc, set-set, set-comm}
 
 module _ {A : Type 0} where
   -- a run that starts at or past the end stores nothing
@@ -76,3 +76,26 @@ module _ {A : Type 0} where
   -- a header that is stored after what follows it
   pub sets-before : (us vs l : List A) (i j : ℕ) → j ≡ i + length us → sets (sets l j vs) i us ≡ sets l i (us ++ vs)
   sets-before us vs l i j e = sets-apart us vs l i j (omega arith) ∙ rw e (sym (sets-append us vs l i))
+
+  -- ---- a run that is stored over another
+
+  pub sets-over : (us vs l : List A) (i : ℕ) → length us ≡ length vs → sets (sets l i us) i vs ≡ sets l i vs
+  sets-over [] [] l i e = refl
+  sets-over [] (v ∷ vs) l i e = absurd (omega arith)
+  sets-over (u ∷ us) [] l i e = absurd (omega arith)
+  sets-over (u ∷ us) (v ∷ vs) l i e =
+      ap (λ (t : List A). sets t (suc i) vs) (set-sets us (set l i u) i (suc i) v (omega arith) ∙ ap (λ (t : List A). sets t (suc i) us) (set-set l i u v)) ∙
+      sets-over us vs (set l i v) (suc i) (omega arith)
+
+  -- over the middle of it
+  pub sets-inside : (a b c vs l : List A) (i j : ℕ) → length b ≡ length vs → j ≡ i + length a → sets (sets l i (a ++ (b ++ c))) j vs ≡ sets l i (a ++ (vs ++ c))
+  sets-inside a b c vs l i j e f =
+      let before : List A = sets l i a in
+      let end : ℕ = j + length vs in
+      let whole : sets l i (a ++ (b ++ c)) ≡ sets (sets before j b) end c =
+      sym (sets-joined a (b ++ c) l i j f) ∙ sym (sets-joined b c before j end (omega arith)) in
+      ap (λ (t : List A). sets t j vs) whole ∙
+      sets-apart vs c (sets before j b) j end (omega arith) ∙
+      ap (λ (t : List A). sets t end c) (sets-over b vs before j e) ∙
+      sets-joined vs c before j end refl ∙
+      sets-joined a (vs ++ c) l i j f

@@ -9,32 +9,18 @@ use native.Mathlib.Omega.{arith}
 use lib.ListN.{length, replicate, length-append}
 use lib.Seq.{sets}
 use Rattle.wire.specs.Length.{wireSize}
-use Rattle.wire.specs.Number.{bytesOf}
 use Rattle.wire.specs.Padding.{padding, aligned}
-use Rattle.wire.proofs.NumberLaws.{length-bytesOf}
-use Rattle.wire.proofs.Sets.{sets-joined, sets-before}
+use Rattle.wire.proofs.NumberLaws.{length-bytesOf, number-stored, fields-stored}
+use Rattle.wire.proofs.Sets.{sets-joined}
 use Rattle.format.specs.Encoding.{u16, u32, terminate, pairEntry, encodeSection, encode}
 use Rattle.format.specs.Sections.{Section}
 use Rattle.format.proofs.Encoding.{length-encode}
+use Rattle.format.proofs.MainHeader.{header-stored}
 use Rattle.format.proofs.EntryBytes.{unpadded, entryBytes}
 use Rattle.write.specs.Entry.{pair, entryStart}
 use Rattle.write.specs.Section.{contentsHeader}
 
--- a number of so many bytes, and a run where it ends
-number-stored :
-    (width n : ℕ) (ws l : List ℕ) (i j : ℕ) → j ≡ i + width → sets (sets l i (bytesOf width n)) j ws ≡ sets l i (bytesOf width n ++ ws)
-number-stored width n ws l i j e = sets-joined (bytesOf width n) ws l i j (omega (arith, length-bytesOf width n))
-
 -- ---- headers
-
--- a number of four bytes, one of so many where it ends, and a run after both
-pub fields-stored :
-    (first width second : ℕ) (third l : List ℕ) (i j k : ℕ) →
-    j ≡ i + 4 →
-    k ≡ j + width →
-    sets (sets (sets l i (u32 first)) j (bytesOf width second)) k third ≡ sets l i (u32 first ++ (bytesOf width second ++ third))
-fields-stored first width second third l i j k e f =
-    number-stored width second third (sets l i (u32 first)) j k f ∙ number-stored 4 first _ l i j e
 
 pub contents-stored :
     (l : List ℕ) (at field compression bytes uncompressed count : ℕ) →
@@ -58,10 +44,8 @@ pub payload-stored :
 unfolding encode
 payload-stored ss l size e =
     let bytes : List ℕ = flatMap encodeSection ss in
-    let header : List ℕ = u32 size ++ (u16 0 ++ u16 (length ss)) in
-    let eight : 8 ≡ 0 + length header = simp (length-append, length-bytesOf) in
-    let whole : header ++ bytes ≡ encode ss = rw (e, length-encode ss) (simp append-assoc) in
-    fields-stored size 2 0 (u16 (length ss)) (sets l 8 bytes) 0 4 6 refl refl ∙ sets-before header bytes l 0 8 eight ∙ ap (λ (t : List ℕ). sets l 0 t) whole
+    let whole : u32 size ++ (u16 0 ++ (u16 (length ss) ++ bytes)) ≡ encode ss = rw (e, length-encode ss) in
+    header-stored size (length ss) bytes l ∙ ap (λ (t : List ℕ). sets l 0 t) whole
 
 -- ---- an entry
 

@@ -1,24 +1,19 @@
 -- `listing::list` meets its contract: of an accepted payload what the walk finds is the listing, which the second writing stores where there is room.
 -- Assumes nothing.
-use Prim.Native.Nat.{ℕ, _≤_}
+use Prim.Native.Nat.{ℕ}
 use mathlib.Core.List.{List, []}
-use mathlib.Core.Path.{_≡_, sym, ap, _∙_}
-use native.Mathlib.Nat.{zero-add}
+use mathlib.Core.Path.{_≡_, sym, _∙_}
 use native.Mathlib.Omega.{arith}
 use borrow.Author.Needs.{needs}
 use denote.Ref.{now}
-use lib.ListN.{length}
-use lib.Seq.{sets-eq}
 use Rattle.layout.specs.Checked.{fault, good}
 use Rattle.layout.specs.declared.refusal.Refusal.{Refusal}
-use Rattle.layout.specs.declared.refusal.Refusal.the-variants.{NoRoom}
-use Rattle.layout.specs.declared.refusal.Answer.the-variants.{Accepted, Refused}
 use Rattle.layout.proofs.Checked.{after-fault}
 use Rattle.format.specs.Parse.{parse}
 use Rattle.format.specs.Listing.{listed, listAnswer, listOutput}
 use Rattle.format.specs.Lines.{listing}
 use Rattle.format.proofs.LinesFound.{listing-found}
-use Rattle.format.proofs.Output.{refused, no-room, room}
+use Rattle.format.proofs.Output.{refused, told-no-room, told-room}
 use Rattle.parse.proofs.Outcomes.{rows-counted, rows-refused}
 use Rattle.wire.proofs.Sets.{sets-past}
 use Rattle.listing.proofs.list.Statement.{statement}
@@ -72,9 +67,8 @@ returns c =
     let w = c .before .before .before in
     let told = w .before .before in
     let a = told .before .before .before .before .before .args in
-    let size = w .write-display .ensures .0 in
-    let short = no-room (listed (now (a .payload))) (now (a .output)) (made told) (omega (arith, size)) in
-    (ap (λ (k : ℕ). Refused (NoRoom k)) size ∙ sym (short .0), rw (nothing w) (sym (short .1)))
+    let (answered, left) = told-no-room (listed (now (a .payload))) (now (a .output)) (made told) _ (w .write-display .ensures .0) (omega arith) in
+    (answered, rw (nothing w) left)
 
 write-display-requires-2 : tie.Need-write-display-requires-2
 write-display-requires-2 c κs = search needs
@@ -97,13 +91,8 @@ returns-3 c =
     let w = second .before .before .before .before .before in
     let told = w .before .before in
     let a = told .before .before .before .before .before .args in
-    let size = w .write-display .ensures .0 in
-    let bytes = listing (now (a .payload)) in
-    let fits : length bytes ≤ length (now (a .output)) = omega (arith, size) in
-    let all = room (listed (now (a .payload))) (now (a .output)) (made told) fits in (
-      ap Accepted size ∙ sym (all .0),
-      second .write-display2 .ensures .1 ∙ rw (nothing w) (sets-eq bytes (now (a .output)) 0 (omega arith) ∙ rw zero-add (sym (all .1))),
-    )
+    let (answered, left) = told-room (listed (now (a .payload))) (now (a .output)) (made told) _ (w .write-display .ensures .0) (omega (arith, second .before .before .if1 .left)) in
+    (answered, second .write-display2 .ensures .1 ∙ rw (nothing w) left)
 
 pub list-spec : {M : Type 1} → statement M
 list-spec =

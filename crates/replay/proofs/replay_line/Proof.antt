@@ -67,17 +67,26 @@ slice-aggregate-same-6 c = search needs
 same-requires-3 : tie.Need-same-requires-3
 same-requires-3 c κs = search needs
 
-sub-list-line : tie.Need-sub-list-line
-sub-list-line c = search needs
+slice-aggregate-same-7 : tie.Need-slice-aggregate-same-7
+slice-aggregate-same-7 c = sym (length-take-le _ _ (omega arith))
 
-part-list-line-start : tie.Need-part-list-line-start
-part-list-line-start c = search needs
+slice-aggregate-same-8 : tie.Need-slice-aggregate-same-8
+slice-aggregate-same-8 c = search needs
 
-part-list-line-end : tie.Need-part-list-line-end
-part-list-line-end c = search needs
+same-requires-4 : tie.Need-same-requires-4
+same-requires-4 c κs = search needs
 
-list-line-requires : tie.Need-list-line-requires
-list-line-requires c κs = search needs
+sub-copy-or-list-line : tie.Need-sub-copy-or-list-line
+sub-copy-or-list-line c = search needs
+
+part-copy-or-list-line-start : tie.Need-part-copy-or-list-line-start
+part-copy-or-list-line-start c = search needs
+
+part-copy-or-list-line-end : tie.Need-part-copy-or-list-line-end
+part-copy-or-list-line-end c = search needs
+
+copy-or-list-line-requires : tie.Need-copy-or-list-line-requires
+copy-or-list-line-requires c κs = search needs
 
 returns-2 : tie.Need-returns-2
 returns-2 c = search needs
@@ -109,9 +118,12 @@ replay-line-spec =
     slice-aggregate-same-5
     slice-aggregate-same-6
     same-requires-3
-    sub-list-line
-    part-list-line-start
-    part-list-line-end
-    list-line-requires
+    slice-aggregate-same-7
+    slice-aggregate-same-8
+    same-requires-4
+    sub-copy-or-list-line
+    part-copy-or-list-line-start
+    part-copy-or-list-line-end
+    copy-or-list-line-requires
     returns-2
     returns-3)

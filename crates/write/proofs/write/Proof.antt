@@ -1,21 +1,18 @@
 -- `write` meets its contract: the first pass gives the refusal or the length of what is to be written, and the second stores it.
 -- Assumes nothing.
-use Prim.Native.Nat.{ℕ, _≤_}
+use Prim.Native.Nat.{ℕ}
 use mathlib.Core.List.{List}
 use mathlib.Core.Path.{_≡_, ap, sym, _∙_}
-use native.Mathlib.Nat.{zero-add}
 use native.Mathlib.Omega.{arith}
 use borrow.Author.Needs.{needs}
 use denote.Ref.{now}
 use lib.ListN.{length}
-use lib.Seq.{sets, sets-eq}
+use lib.Seq.{sets}
 use Rattle.layout.specs.Checked.{good, isGood}
 use Rattle.layout.specs.Rows.{rowsOf}
-use Rattle.layout.specs.declared.refusal.Answer.the-variants.{Accepted, Refused}
-use Rattle.layout.specs.declared.refusal.Refusal.the-variants.{NoRoom}
 use Rattle.layout.proofs.Checked.{check-good}
 use Rattle.format.specs.Write.{written, writtenTable, writeAnswer, writeOutput}
-use Rattle.format.proofs.Output.{refused, no-room, room}
+use Rattle.format.proofs.Output.{refused, told-no-room, told-room}
 use Rattle.format.proofs.RoundTrips.{written-good}
 use Rattle.rows.proofs.Sized.{sized-bytes, sized-refused}
 use Rattle.write.proofs.write.Statement.{statement}
@@ -50,8 +47,7 @@ returns c =
     let n = c .before .before in
     let a = n .before .before .before .before .before .before .before .args in
     let (q, is, size) = measured n in
-    let short = no-room (writtenTable (now (a .payload)) (now (a .edit)) (now (a .rows))) (now (a .output)) is (omega arith) in
-    (ap (λ (k : ℕ). Refused (NoRoom k)) (sym size) ∙ sym (short .0), sym (short .1))
+    told-no-room (writtenTable (now (a .payload)) (now (a .edit)) (now (a .rows))) (now (a .output)) is _ (sym size) (omega arith)
 
 write-srci-requires : tie.Need-write-srci-requires
 write-srci-requires c κs =
@@ -79,13 +75,10 @@ returns-3 c =
     let n = f .before .before .before .before in
     let a = n .before .before .before .before .before .before .before .args in
     let (q, is, size) = measured n in
-    let fits : length q ≤ length (now (a .output)) = omega (arith, size) in
-    let all = room (writtenTable (now (a .payload)) (now (a .edit)) (now (a .rows))) (now (a .output)) is fits in
+    let (answered, left) = told-room (writtenTable (now (a .payload)) (now (a .edit)) (now (a .rows))) (now (a .output)) is _ (sym size) (omega arith) in
     let rows = written-rows (now (a .payload)) (now (a .edit)) (now (a .rows)) q is in
-    let bytes = written-good (now (a .payload)) (now (a .edit)) q (rowsOf (now (a .rows))) rows .is in (
-      ap Accepted (sym size) ∙ sym (all .0),
-      f .write-srci .ensures ∙ ap (λ (l : List ℕ). sets (now (a .output)) 0 l) bytes ∙ sets-eq q (now (a .output)) 0 (omega arith) ∙ rw zero-add (sym (all .1)),
-    )
+    let bytes = written-good (now (a .payload)) (now (a .edit)) q (rowsOf (now (a .rows))) rows .is in
+    (answered, f .write-srci .ensures ∙ ap (λ (l : List ℕ). sets (now (a .output)) 0 l) bytes ∙ left)
 
 pub write-spec : {M : Type 1} → statement M
 write-spec =

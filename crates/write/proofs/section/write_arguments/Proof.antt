@@ -12,7 +12,7 @@ use Rattle.format.specs.Encoding.{u32}
 use Rattle.write.specs.Run.{runBytes}
 use Rattle.write.specs.Section.{entryCount}
 use Rattle.write.proofs.SectionParts.{arguments-parts, run-many, section-size, end-within, parts-stored}
-use Rattle.write.proofs.Stored.{fields-stored}
+use Rattle.wire.proofs.NumberLaws.{fields-stored}
 use Rattle.write.proofs.section.write_arguments.Statement.{statement}
 use Rattle.write.proofs.section.write_arguments.Tie as tie
 

@@ -6,7 +6,7 @@ use native.Mathlib.Omega.{arith}
 use borrow.Author.Needs.{needs}
 use Rattle.wire.specs.Padding.{aligned}
 use Rattle.format.specs.Encoding.{u16}
-use Rattle.write.proofs.Stored.{fields-stored}
+use Rattle.wire.proofs.NumberLaws.{fields-stored}
 use Rattle.write.proofs.section.write_frame.Statement.{statement}
 use Rattle.write.proofs.section.write_frame.Tie as tie
 

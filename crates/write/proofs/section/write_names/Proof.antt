@@ -12,7 +12,7 @@ use Rattle.format.specs.Encoding.{u16}
 use Rattle.write.specs.Run.{runBytes}
 use Rattle.write.specs.Section.{entryCount}
 use Rattle.write.proofs.SectionParts.{names-parts, names-fit, run-many, section-size, end-within, parts-stored}
-use Rattle.write.proofs.Stored.{fields-stored}
+use Rattle.wire.proofs.NumberLaws.{fields-stored}
 use Rattle.write.proofs.section.write_names.Statement.{statement}
 use Rattle.write.proofs.section.write_names.Tie as tie
 

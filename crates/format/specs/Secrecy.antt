@@ -1,0 +1,84 @@
+-- Demand 3 as statements about the definitions, of every accepted payload: what a holder of the public copy can learn. Each is proved under its
+-- name in proofs/Secrecy.antt.
+use Prim.Native.Nat.{ℕ, _≤_, _<_}
+use mathlib.Core.Bool.{true, false}
+use mathlib.Core.List.{List, [], _++_, map}
+use mathlib.Core.Path.{_≡_}
+use lib.ListN.{length, drop, replicate}
+use Rattle.layout.specs.Checked.{good}
+use Rattle.layout.specs.declared.refusal.Refusal.{Refusal}
+use Rattle.layout.specs.declared.refusal.Refusal.the-variants.{NoRoom}
+use Rattle.layout.specs.declared.refusal.Answer.the-variants.{Refused}
+use Rattle.format.specs.Encoding.{encode}
+use Rattle.format.specs.PublicCopy.{publicCopy, copyAnswer, copyOutput}
+use Rattle.format.specs.PublicFacts.{Fact, publicFacts}
+use Rattle.format.specs.PublicFacts as fact
+use Rattle.format.specs.Read.{accepted}
+use Rattle.format.specs.Sections.{Section, plain, packed, names, arguments}
+use Rattle.format.specs.WellFormed.{Bytes}
+
+abbrev pub AcceptedPayload : List ℕ → Type 0
+AcceptedPayload p = Bytes p × (accepted p ≡ true)
+
+-- ---- the copy is a function of the facts
+
+-- the section that a public copy has for a fact: empty contents, names with content size 1, the pairs
+unfoldable pub sectionOf : Fact → Section
+sectionOf (fact.contents count false) = plain 0 (replicate count [])
+sectionOf (fact.contents count true) = packed 0 [] count 0
+sectionOf (fact.names count texts) = names (map (λ (text : List ℕ). record { text = text; contentSize = 1 }) texts)
+sectionOf (fact.arguments count pairs) = arguments pairs
+
+-- the bytes that facts make, without any payload
+unfoldable pub made : List Fact → List ℕ
+made facts = encode (map sectionOf facts)
+
+abbrev pub CopyOfFacts : Type 0
+CopyOfFacts = (p : List ℕ) → AcceptedPayload p → publicCopy p ≡ good (made (publicFacts p))
+
+-- ---- equal exactly when
+
+-- whatever else two payloads hold, their public copies are equal if and only if their public facts are
+abbrev pub EqualExactly : Type 0
+EqualExactly =
+    (p q : List ℕ) →
+    AcceptedPayload p →
+    AcceptedPayload q →
+    (publicFacts p ≡ publicFacts q → publicCopy p ≡ publicCopy q) × (publicCopy p ≡ publicCopy q → publicFacts p ≡ publicFacts q)
+
+-- ---- the same call
+
+-- with equal facts, and outputs of one length that hold whatever they hold, the answer is the same, and each output afterwards is the same bytes
+-- followed by what it held; too short an output holds none of them
+abbrev pub SameCall : Type 0
+SameCall =
+    (p q : List ℕ) →
+    AcceptedPayload p →
+    AcceptedPayload q →
+    publicFacts p ≡ publicFacts q →
+    (o₁ o₂ : List ℕ) →
+    length o₁ ≡ length o₂ →
+    (copyAnswer p (length o₁) ≡ copyAnswer q (length o₂))
+    × ((bytes : List ℕ) × (copyOutput p o₁ ≡ bytes ++ drop (length bytes) o₁) × (copyOutput q o₂ ≡ bytes ++ drop (length bytes) o₂))
+
+-- ---- each public copy
+
+-- is accepted, has its payload's facts, is its own public copy, and is not longer than its payload
+abbrev pub CopyIsPublic : Type 0
+CopyIsPublic =
+    (p : List ℕ) →
+    AcceptedPayload p →
+    (c : List ℕ)
+    × (publicCopy p ≡ good c)
+    × (accepted c ≡ true)
+    × (publicFacts c ≡ publicFacts p)
+    × (publicCopy c ≡ good c)
+    × (length c ≤ length p)
+
+-- an accepted payload is refused with 19 alone, and with the copy's own length, which does not fit
+abbrev pub RefusedForRoom : Type 0
+RefusedForRoom =
+    (p : List ℕ) (room : ℕ) (refusal : Refusal) →
+    AcceptedPayload p →
+    copyAnswer p room ≡ Refused refusal →
+    (refusal ≡ NoRoom (length (made (publicFacts p)))) × (room < length (made (publicFacts p)))

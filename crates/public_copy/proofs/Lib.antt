@@ -1,0 +1,3 @@
+pub mod ContentsLaws
+pub mod NamesLaws
+pub mod CopyLaws
