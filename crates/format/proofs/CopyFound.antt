@@ -12,10 +12,11 @@ use Rattle.wire.specs.Number.{u32At}
 use Rattle.wire.specs.Padding.{padding, aligned}
 use Rattle.wire.proofs.NumberLaws.{length-bytesOf}
 use Rattle.layout.specs.Checked.{Checked, good}
+use Rattle.layout.specs.Kinds.{known}
 use Rattle.layout.proofs.Lists.{flatMap-append}
 use Rattle.layout.specs.Texts.{part}
 use Rattle.layout.specs.declared.row.Row.{Row}
-use Rattle.format.specs.CopyWalk.{nameCopy, nameCopies, contentsCopy, copyAt, known, knownFrom, copiesFrom, copy}
+use Rattle.format.specs.CopyWalk.{nameCopy, nameCopies, contentsCopy, copyAt, knownFrom, copiesFrom, copy}
 use Rattle.format.specs.Encoding.{u16, u32, terminate, limit, nameEntry, storedBytes, bodyHeader, kindOf, encodeSection, encode, allFit}
 use Rattle.format.specs.Parse.{parse}
 use Rattle.format.specs.PublicCopy.{publicCopy}
@@ -182,11 +183,11 @@ section-known (unknown kind bytes) ok = rw (le-ltb kind 3 (ok .0))
 -- ---- sections, and a payload
 
 -- the public sections of one section and of others
-public-first : (s : Section) (ss : List Section) → publicSections (s ∷ ss) ≡ map sectionOf (factOf s) ++ publicSections ss
+pub public-first : (s : Section) (ss : List Section) → publicSections (s ∷ ss) ≡ map sectionOf (factOf s) ++ publicSections ss
 unfolding publicSections factsOf flatMap
 public-first s ss = map-append sectionOf (factOf s) (flatMap factOf ss)
 
-copies-found :
+pub copies-found :
     (p : List ℕ) →
     length p ≤ limit →
     (ss : List Section) (at : ℕ) →
@@ -213,7 +214,7 @@ copies-found p small (s ∷ ss) at (ok, oks) fit within stand =
       ap₂ (λ (a b : ℕ). a + b) (section-known s ok) many ∙ sym (length-append mine (publicSections ss)),
     )
 
-copy-encoded : (p : List ℕ) (rows : List Row) → (all : Payload p rows) → copy p ≡ encode (publicSections (all .sections))
+pub copy-encoded : (p : List ℕ) (rows : List Row) → (all : Payload p rows) → copy p ≡ encode (publicSections (all .sections))
 unfolding copy encode
 copy-encoded p rows all =
     let ss : List Section = all .sections in

@@ -46,8 +46,11 @@ pub mod PublicRows
 pub mod FactsFound
 pub mod PublicSections
 pub mod Secrecy
+pub mod Card
 -- The listing and the public copy, by walks
+pub mod DecimalLaws
 pub mod LinesFound
 pub mod PrintLaws
 pub mod CopyFound
+pub mod CardFound
 pub mod Samples

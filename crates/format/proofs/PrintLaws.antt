@@ -2,18 +2,24 @@
 -- Assumes nothing.
 use Prim.Native.Nat.{ℕ, _≤_, _<_}
 use mathlib.Core.Bool.{Bool, true, false, cond}
-use mathlib.Core.List.{List, _++_}
-use mathlib.Core.Path.{_≡_, refl, ap}
+use mathlib.Core.List.{List, [], _∷_, _++_}
+use mathlib.Core.Path.{_≡_, refl, ap, _∙_}
+use native.Mathlib.Nat.{zero-add}
 use native.Mathlib.Omega.{arith}
 use borrow.Author.Tests.{le-leb, lt-leb}
 use lib.Dec.{leb}
-use lib.ListN.{length, drop}
+use lib.ListN.{length, drop, length-append}
+use lib.Seq.{sets-eq}
 use Rattle.layout.specs.Checked.{Checked, fault, good}
+use Rattle.layout.specs.Refusals.{refusalNumber}
 use Rattle.layout.specs.declared.refusal.Refusal.{Refusal}
-use Rattle.layout.specs.declared.refusal.Refusal.the-variants.{NoRoom}
+use Rattle.layout.specs.declared.refusal.Refusal.the-variants.{Oversize, Ragged, MainHeader, Frame, Flag, Short, BodySize, Padding, EntrySize, OpenText, NotUtf8, InnerNul, Leftover, Compression, Unequal, NoRows, BadRow, WontFit, NoRoom}
+use Rattle.layout.specs.declared.refusal.Answer.{Answer}
 use Rattle.layout.specs.declared.refusal.Answer.the-variants.{Accepted, Refused}
+use Rattle.format.specs.Display.{ascii, decimal}
 use Rattle.format.specs.Output.{answer, stored}
-use Rattle.format.specs.Print.{most, refusedLine, longerLine, outcome, printed}
+use Rattle.format.specs.Print.{most, refusedLine, longerLine, told, toldLength, outcome, printed}
+use Rattle.format.proofs.DecimalLaws.{decimal-short}
 
 module _ (job : List ℕ → Checked (List ℕ)) (input : List ℕ) where
   pub printed-long : most < length input → printed job input ≡ longerLine
@@ -23,6 +29,38 @@ module _ (job : List ℕ → Checked (List ℕ)) (input : List ℕ) where
   pub printed-outcome : length input ≤ most → printed job input ≡ outcome (job input)
   unfolding printed
   printed-outcome h = rw (le-leb (length input) most h)
+
+pub longer-short : length longerLine ≤ 27
+unfolding ascii
+longer-short = omega arith
+
+-- the line of a refusal is short
+refusal-small : (refusal : Refusal) → refusalNumber refusal ≤ 19
+refusal-small Oversize = omega arith
+refusal-small Ragged = omega arith
+refusal-small MainHeader = omega arith
+refusal-small Frame = omega arith
+refusal-small Flag = omega arith
+refusal-small Short = omega arith
+refusal-small BodySize = omega arith
+refusal-small Padding = omega arith
+refusal-small EntrySize = omega arith
+refusal-small OpenText = omega arith
+refusal-small NotUtf8 = omega arith
+refusal-small InnerNul = omega arith
+refusal-small Leftover = omega arith
+refusal-small Compression = omega arith
+refusal-small Unequal = omega arith
+refusal-small (NoRows n) = omega arith
+refusal-small BadRow = omega arith
+refusal-small WontFit = omega arith
+refusal-small (NoRoom n) = omega arith
+
+refused-short : (refusal : Refusal) → length (refusedLine refusal) ≤ 14
+unfolding ascii
+refused-short refusal =
+    let number : ℕ = refusalNumber refusal in
+    omega (arith, decimal-short 1 number (omega (arith, refusal-small refusal)), length-append (decimal number) (10 ∷ []))
 
 module _ (output : List ℕ) (whole : length output ≡ most) where
   -- an accepted outcome is stored, and printed
@@ -57,3 +95,20 @@ module _ (output : List ℕ) (whole : length output ≡ most) where
           (cond fits (q ++ drop (length q) output) output ≡ output) × (cond fits q (refusedLine (NoRoom (length q))) ≡ refusedLine refusal)
       go true f = let z : _≡_ {A = ℕ} 0 1 = cc in absurd (omega arith)
       go false f = let same : NoRoom (length q) ≡ refusal = cc in (refl, ap refusedLine same)
+
+  -- so what is printed of the answer, over what the call left, is the outcome
+  pub outcome-told :
+      (made : Checked (List ℕ)) →
+      (let a : Answer = answer made (length output) in
+      (toldLength a ≡ length (outcome made)) × (told a (stored made output) ≡ outcome made ++ drop (length (outcome made)) output))
+  unfolding told toldLength
+  outcome-told made = go (answer made (length output)) refl
+    where
+      go :
+          (a : Answer) →
+          answer made (length output) ≡ a →
+          (toldLength a ≡ length (outcome made)) × (told a (stored made output) ≡ outcome made ++ drop (length (outcome made)) output)
+      go (Accepted count) e = outcome-accepted made count e
+      go (Refused refusal) e =
+          let (left, line) = outcome-refused made refusal e in
+          rw (line, left) (refl, sets-eq (refusedLine refusal) output 0 (omega (arith, whole, refused-short refusal)) ∙ rw zero-add)

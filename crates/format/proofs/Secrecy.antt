@@ -29,15 +29,15 @@ use Rattle.format.proofs.PublicSections.{public-ok, public-same, public
 use Rattle.format.proofs.RoundTrips.{accepted-is-encoded}
 
 -- what is known of an accepted payload by its sections
-record Known (p : List ℕ) : Type 0 where
-  sections : List Section
-  ok : All WellFormed sections
-  fit : fits sections ≡ true
-  is : encode sections ≡ p
-  copy : publicCopy p ≡ good (encode (publicSections sections))
-  facts : publicFacts p ≡ factsOf sections
+pub record Known (p : List ℕ) : Type 0 where
+  pub sections : List Section
+  pub ok : All WellFormed sections
+  pub fit : fits sections ≡ true
+  pub is : encode sections ≡ p
+  pub copy : publicCopy p ≡ good (encode (publicSections sections))
+  pub facts : publicFacts p ≡ factsOf sections
 
-known : (p : List ℕ) → AcceptedPayload p → Known p
+pub known : (p : List ℕ) → AcceptedPayload p → Known p
 known p (bytes, e) =
     let (ss, ok, fit, is) = accepted-is-encoded p bytes e in
     record {
@@ -88,10 +88,10 @@ equal-exactly p q h k = (same-copy p q h k, back)
 -- ---- the call
 
 -- the bytes that a call stores where room for so many is lent: all that it makes, or none
-abbrev placed : List ℕ → ℕ → List ℕ
+abbrev pub placed : List ℕ → ℕ → List ℕ
 placed bytes room = cond (leb (length bytes) room) bytes []
 
-stores :
+pub stores :
     (made : Checked (List ℕ)) (bytes output : List ℕ) →
     made ≡ good bytes →
     stored made output ≡ placed bytes (length output) ++ drop (length (placed bytes (length output))) output

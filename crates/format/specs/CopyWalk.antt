@@ -1,11 +1,10 @@
 -- The public copy of an accepted payload by a walk that tests nothing: sections by their size fields, entries by theirs, with the count fields. It is
 -- what a pass over the payload follows; what it finds is the public copy (proofs/CopyFound.antt).
 use Prim.Native.Nat.{ℕ, zero, suc, _+_, _-_}
-use mathlib.Core.Bool.{cond}
 use mathlib.Core.List.{List, [], _++_}
-use lib.Dec.{ltb}
 use lib.ListN.{length, replicate}
 use Rattle.wire.specs.Number.{u16At, u32At}
+use Rattle.layout.specs.Kinds.{known}
 use Rattle.layout.specs.Texts.{part}
 use Rattle.format.specs.Encoding.{u16, u32, encodeSection}
 use Rattle.format.specs.Sections.{plain, packed}
@@ -14,10 +13,6 @@ use Rattle.format.specs.Sections.{plain, packed}
 unfoldable pub contentsCopy : ℕ → ℕ → List ℕ
 contentsCopy zero count = encodeSection (plain 0 (replicate count []))
 contentsCopy (suc n) count = encodeSection (packed 0 [] count 0)
-
--- how many sections a public copy has for one of a kind
-abbrev pub known : ℕ → ℕ
-known kind = cond (ltb kind 3) 1 0
 
 module _ (p : List ℕ) where
   -- the entry of names at a place, with 1 for its content size

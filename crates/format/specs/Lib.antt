@@ -23,7 +23,9 @@ pub mod Samples
 pub mod Promises
 pub mod RoundTrips
 pub mod Secrecy
+pub mod Card
 -- How a second pass goes over a payload
 pub mod Walk
 pub mod Lines
 pub mod CopyWalk
+pub mod CardWalk

@@ -4,10 +4,13 @@ use mathlib.Core.Bool.{cond}
 use mathlib.Core.List.{List, _++_}
 use lib.Dec.{leb}
 use lib.ListN.{length}
+use lib.Seq.{sets}
 use Rattle.layout.specs.Checked.{Checked, fault, good}
 use Rattle.layout.specs.Refusals.{refusalNumber}
 use Rattle.layout.specs.declared.refusal.Refusal.{Refusal}
 use Rattle.layout.specs.declared.refusal.Refusal.the-variants.{NoRoom}
+use Rattle.layout.specs.declared.refusal.Answer.{Answer}
+use Rattle.layout.specs.declared.refusal.Answer.the-variants.{Accepted, Refused}
 use Rattle.format.specs.Display.{ascii, decimal}
 use Rattle.format.specs.Listing.{listed}
 
@@ -15,11 +18,25 @@ use Rattle.format.specs.Listing.{listed}
 abbrev pub most : ℕ
 most = 65536
 
+-- the line of a refused call, by its number
+abbrev pub numberLine : ℕ → List ℕ
+numberLine number = ascii "// refused " ++ (decimal number ++ ascii "\n")
+
 abbrev pub refusedLine : Refusal → List ℕ
-refusedLine refusal = ascii "// refused " ++ (decimal (refusalNumber refusal) ++ ascii "\n")
+refusedLine refusal = numberLine (refusalNumber refusal)
 
 abbrev pub longerLine : List ℕ
 longerLine = ascii "// longer than 65536 bytes\n"
+
+-- what is printed of an answer, over an output of `most` bytes that the call left: nothing more where it is accepted, else the line of the refusal from the
+-- start on; and how many bytes
+unfoldable pub told : Answer → List ℕ → List ℕ
+told (Accepted count) output = output
+told (Refused refusal) output = sets output 0 (refusedLine refusal)
+
+unfoldable pub toldLength : Answer → ℕ
+toldLength (Accepted count) = count
+toldLength (Refused refusal) = length (refusedLine refusal)
 
 -- what is printed of an outcome
 unfoldable pub outcome : Checked (List ℕ) → List ℕ

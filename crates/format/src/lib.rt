@@ -9,13 +9,14 @@
 //                    row says, places apart)
 //   Refused calls    Parse (reading, fault by fault), Read, Write, Listing (the jobs with what they are
 //                    lent), Output (lent output, whichever job)
-//   Public copy      PublicCopy, PublicFacts, Secrecy (what a holder of the copy can learn)
+//   Public copy      PublicCopy, PublicFacts, Secrecy (what a holder of the copy can learn),
+//                    Card (the listing of the copy)
 //   Sample payloads  Samples (the starred ones), Display (the lines of a listing), Print (what a program prints)
 //   what follows     Promises (of each job by itself), RoundTrips (of reading and writing together)
 //
-// Walk, Lines and CopyWalk are no part of the meaning: they say how a pass goes over an accepted payload. Refusals, rows
+// Walk, Lines, CopyWalk and CardWalk are no part of the meaning: they say how a pass goes over an accepted payload. Refusals, rows
 // and the text that a row names have code, and are defined in crate layout; numbers, padding and NULs in wire;
 // UTF-8 in utf8.
 //
-// Proved: each promise of specs/Promises.antt, specs/RoundTrips.antt and specs/Secrecy.antt, and that the starred samples hold. Nothing
+// Proved: each promise of specs/Promises.antt, specs/RoundTrips.antt, specs/Secrecy.antt and specs/Card.antt, and that the starred samples hold. Nothing
 // is assumed.

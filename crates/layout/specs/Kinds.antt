@@ -1,5 +1,7 @@
 -- The numbers of section kinds and of compression, as DxilContainer.h gives them.
 use Prim.Native.Nat.{ℕ, zero, suc}
+use mathlib.Core.Bool.{cond}
+use lib.Dec.{ltb}
 use Rattle.layout.specs.declared.section_type.SourceInfoSectionType.{SourceInfoSectionType}
 use Rattle.layout.specs.declared.section_type.SourceInfoSectionType.the-variants.{SourceContents, SourceNames, Arguments, Unknown}
 use Rattle.layout.specs.declared.compression.SourceCompression.{SourceCompression}
@@ -13,6 +15,10 @@ sectionType zero = SourceContents
 sectionType (suc zero) = SourceNames
 sectionType (suc (suc zero)) = Arguments
 sectionType (suc (suc (suc n))) = Unknown (suc (suc (suc n)))
+
+-- 1 for the number of a known kind, 0 for any other
+abbrev pub known : ℕ → ℕ
+known number = cond (ltb number 3) 1 0
 
 -- the number of a kind
 abbrev pub kind : SourceInfoSectionType → ℕ

@@ -1,6 +1,6 @@
 // Section kinds, as DxilSourceInfoSectionType numbers them, and the sizes of the layout's headers.
 ghost use mathlib.Core.Path.{_≡_};
-ghost use Rattle.layout.specs.Kinds.{sectionType, kind};
+ghost use Rattle.layout.specs.Kinds.{sectionType, known, kind};
 
 pub enum SourceInfoSectionType {
     // Source texts, plain or packed.
@@ -48,6 +48,13 @@ impl SourceInfoSectionType {
             2 => SourceInfoSectionType::Arguments,
             _ => SourceInfoSectionType::Unknown(value),
         }
+    }
+
+    // 1 for the number of a known kind and 0 for any other: how many sections a public copy has for one of a kind.
+    pub fn known(value: u16) -> u16
+        ensures { λ r. ⌜ r ≡ known value ⌝ }
+    {
+        if value < 3 { 1 } else { 0 }
     }
 
     pub fn to_u16(self) -> u16

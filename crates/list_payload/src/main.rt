@@ -11,6 +11,6 @@ fn main() {
     let mut input = [0u8; 65537];
     let count = io::read_full(STDIN_FILENO, &mut input);
     let mut output = [0u8; 65536];
-    let size = listing::print_listing(&input[..count], &mut output);
+    let size = print::print_listing(&input[..count], &mut output);
     io::write_all(STDOUT_FILENO, &output[..size]);
 }

@@ -1,16 +1,16 @@
 -- The listing line by line: what is left after one line, and the heading before the lines.
 -- Assumes nothing.
 use Prim.Native.Nat.{ℕ, zero, suc, _+_, _-_}
-use mathlib.Core.List.{List, _++_}
-use mathlib.Core.Path.{_≡_, refl, sym, ap, _∙_}
+use mathlib.Core.List.{List}
+use mathlib.Core.Path.{_≡_, refl, sym, _∙_}
 use native.Mathlib.Omega.{arith}
 use lib.ListN.{length, length-append}
 use lib.Seq.{sets}
 use Rattle.wire.specs.Number.{u16At, u32At}
-use Rattle.wire.proofs.Sets.{sets-append, sets-joined}
+use Rattle.wire.proofs.Sets.{sets-append}
 use Rattle.layout.specs.Kinds.{sectionType}
 use Rattle.layout.specs.declared.section_type.SourceInfoSectionType.the-variants.{Unknown}
-use Rattle.format.specs.Display.{ascii, decimal, packedLine, unknownLine, heading, line}
+use Rattle.format.specs.Display.{packedLine, unknownLine, line}
 use Rattle.format.specs.Lines.{contentsLineAt, lineAt, linesFrom}
 
 -- ---- what a section's line says
@@ -45,20 +45,3 @@ module _ (p : List ℕ) (left at place to : ℕ) where
   pub next-length : to + length (linesFrom p (suc left) at place) ≡ to + length this + length rest
   unfolding linesFrom
   next-length = omega (arith, length-append this rest)
-
--- ---- the heading, and all lines
-
-pub display-stored :
-    (count : ℕ) (lines l : List ℕ) (start : ℕ) →
-    start ≡ 23 + length (decimal count ++ ascii " section(s)\n") →
-    sets (sets (sets l 0 (ascii "// Shader Source Info: ")) 23 (decimal count ++ ascii " section(s)\n")) start lines ≡ sets l 0 (heading count ++ lines)
-unfolding ascii
-display-stored count lines l start e =
-    let first : List ℕ = ascii "// Shader Source Info: " in
-    let second : List ℕ = decimal count ++ ascii " section(s)\n" in
-    ap (λ (t : List ℕ). sets t start lines) (sets-joined first second l 0 23 (omega arith)) ∙
-    sets-joined (first ++ second) lines l 0 start (omega (arith, length-append first second))
-
-pub heading-length : (count : ℕ) → length (heading count) ≡ 23 + length (decimal count ++ ascii " section(s)\n")
-unfolding ascii
-heading-length count = omega arith

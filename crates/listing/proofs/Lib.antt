@@ -1,3 +1,1 @@
-pub mod Decimals
-pub mod LineLaws
 pub mod DisplayLaws

@@ -5,12 +5,8 @@
 // tells how many bytes it takes.
 //
 // Proved: the answer and the output afterwards are those that crate format defines (specs/Listing.antt), for
-// every byte string and every output; and what list_payload prints is what specs/Print.antt says of every
-// input. Nothing is assumed.
-mod display;
-mod line;
-mod number;
-mod print;
+// every byte string and every output. Nothing is assumed.
+mod source_info;
 
 ghost use mathlib.Core.Path.{_≡_};
 ghost use lib.ListN.{length};
@@ -18,9 +14,6 @@ ghost use Rattle.format.specs.Listing.{listAnswer, listOutput};
 use layout::Answer;
 use layout::Refusal;
 use parse::Counted;
-pub use print::MOST;
-pub use print::print_listing;
-
 // Lists a payload to a lent output, whole, or refuses it and leaves the output as it was.
 pub fn list(payload: &[u8], output: &mut [u8]) -> Answer
     ensures { λ r. ⌜ r ≡ listAnswer (now (payload .entry)) (length (now (output .entry))) ⌝ }
@@ -29,11 +22,11 @@ pub fn list(payload: &[u8], output: &mut [u8]) -> Answer
     match parse::parse_srci(payload) {
         Counted::Refused(refusal) => Answer::Refused(refusal),
         Counted::Rows(_) => {
-            let size = display::write_display(payload, &mut output[..0]);
+            let size = source_info::write_display(payload, &mut output[..0]);
             if output.len() < size as usize {
                 return Answer::Refused(Refusal::NoRoom(size));
             }
-            display::write_display(payload, output);
+            source_info::write_display(payload, output);
             Answer::Accepted(size)
         }
     }

@@ -11,9 +11,9 @@ use lib.Seq.{sets}
 use Rattle.wire.specs.Number.{u16At, u32At}
 use Rattle.wire.proofs.NumberLaws.{length-bytesOf}
 use Rattle.wire.proofs.Sets.{sets-append}
-use Rattle.layout.specs.Kinds.{sectionType}
+use Rattle.layout.specs.Kinds.{known, sectionType}
 use Rattle.layout.specs.declared.section_type.SourceInfoSectionType.the-variants.{Unknown}
-use Rattle.format.specs.CopyWalk.{copyAt, known, knownFrom, copiesFrom, copy}
+use Rattle.format.specs.CopyWalk.{copyAt, knownFrom, copiesFrom, copy}
 
 pub unknown-none : (p : List ℕ) (at n kind : ℕ) → sectionType n ≡ Unknown kind → copyAt p n at ≡ []
 unfolding copyAt

@@ -7,7 +7,6 @@ ghost use lib.Seq.{sets};
 ghost use Rattle.wire.specs.Number.{u16At, u32At};
 ghost use Rattle.layout.specs.Checked.{isGood};
 ghost use Rattle.format.specs.CopyWalk.{copyAt, copiesFrom, knownFrom, copy};
-ghost use Rattle.format.specs.CopyWalk.{known as CopyWalk·known};
 ghost use Rattle.format.specs.Encoding.{limit};
 ghost use Rattle.format.specs.Parse.{body, sections, parse};
 use crate::contents::write_contents;
@@ -41,13 +40,6 @@ fn copy_section(payload: &[u8], at: usize, output: &mut [u8], to: usize) -> usiz
     }
 }
 
-// How many sections a public copy has for one of a kind.
-fn known(kind: u16) -> u16
-    ensures { λ r. ⌜ r ≡ CopyWalk·known kind ⌝ }
-{
-    if kind < 3 { 1 } else { 0 }
-}
-
 // Where the sections of a copy end, and how many they are.
 struct Copied {
     end: usize,
@@ -70,7 +62,7 @@ fn copy_sections(payload: &[u8], count: u16, output: &mut [u8]) -> Copied
     let mut done: u16 = 0;
     while done < count {
         end = copy_section(payload, at, output, end);
-        sections += known(wire::read_u16(payload, at + 6));
+        sections += SourceInfoSectionType::known(wire::read_u16(payload, at + 6));
         at += wire::read_u32(payload, at) as usize;
         done += 1;
     }

@@ -9,6 +9,7 @@ ghost use Rattle.format.specs.Read.{readAnswer, readTable};
 ghost use Rattle.format.specs.Write.{writeAnswer, writeOutput};
 ghost use Rattle.format.specs.Listing.{listAnswer, listOutput};
 ghost use Rattle.format.specs.PublicCopy.{copyAnswer, copyOutput};
+ghost use Rattle.format.specs.Card.{cardAnswer, cardOutput};
 ghost use Rattle.srci.specs.Secrecy.{Called};
 use layout::Answer;
 
@@ -82,5 +83,17 @@ pub extern "C" fn srci_public_copy(payload: &[u8], output: &mut [u8], second: &m
     ensures { λ r. ⌜ Called (now (payload .entry)) (now (output .entry)) r (now (output .exit)) (now (second .exit)) ⌝ }
 {
     let answer = public_copy::public_copy(payload, output);
+    tell(answer, second)
+}
+
+// Writes the card of a payload, which is the listing of its public copy, to a lent output. Answers 0, or the refusal's
+// number. Stores in `second` how many bytes were stored, or the refusal's second number.
+#[no_mangle]
+pub extern "C" fn srci_card(payload: &[u8], output: &mut [u8], second: &mut u32) -> u32
+    ensures { λ r. ⌜ r ≡ answerNumber (cardAnswer (now (payload .entry)) (length (now (output .entry)))) ⌝ }
+    ensures { λ _. ⌜ now (output .exit) ≡ cardOutput (now (payload .entry)) (now (output .entry)) ⌝ }
+    ensures { λ _. ⌜ now (second .exit) ≡ answerSecond (cardAnswer (now (payload .entry)) (length (now (output .entry)))) ⌝ }
+{
+    let answer = card::card(payload, output);
     tell(answer, second)
 }

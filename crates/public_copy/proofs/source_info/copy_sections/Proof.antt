@@ -11,8 +11,9 @@ use lib.ListN.{length}
 use lib.Seq.{sets}
 use Rattle.wire.specs.Number.{u16At, u32At}
 use Rattle.layout.specs.Checked.{isGood}
+use Rattle.layout.specs.Kinds.{known}
 use Rattle.layout.proofs.Checked.{is-good}
-use Rattle.format.specs.CopyWalk.{known, knownFrom, copiesFrom}
+use Rattle.format.specs.CopyWalk.{knownFrom, copiesFrom}
 use Rattle.format.specs.Parse as Parse
 use Rattle.format.proofs.SectionLaws.{sections-good}
 use Rattle.format.proofs.Walking.{one-fewer}
