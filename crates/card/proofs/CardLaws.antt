@@ -1,18 +1,15 @@
 -- The card section by section: what a section's line says, and what is left after it.
 -- Assumes nothing.
 use Prim.Native.Nat.{ℕ, zero, suc, _+_, _≤_}
-use mathlib.Core.Bool.{Bool, true, false, cond}
 use mathlib.Core.List.{List}
 use mathlib.Core.Path.{_≡_, refl, sym, _∙_}
 use native.Mathlib.Omega.{arith}
-use lib.Dec.{ltb}
 use lib.ListN.{length, length-append}
 use lib.Seq.{sets}
 use Rattle.wire.specs.Number.{u16At, u32At}
 use Rattle.wire.proofs.Sets.{sets-append}
 use Rattle.layout.specs.Kinds.{known}
 use Rattle.format.specs.CardWalk.{publicContentsAt, publicLineAt, shownAt, cardLines}
-use Rattle.format.specs.CopyWalk.{knownFrom}
 use Rattle.format.specs.Display.{packedLine, argumentsLine}
 
 module _ (p : List ℕ) (at : ℕ) where
@@ -26,13 +23,6 @@ module _ (p : List ℕ) (at : ℕ) where
   arguments-at zero h = absurd (omega arith)
   arguments-at (suc zero) h = absurd (omega arith)
   arguments-at (suc (suc n)) h = refl
-
-pub known-least : (kind : ℕ) → known kind ≤ 1
-known-least kind = go (ltb kind 3)
-  where
-    go : (b : Bool) → cond b 1 0 ≤ 1
-    go true = omega arith
-    go false = omega arith
 
 module _ (p : List ℕ) (left at place to : ℕ) where
   abbrev this : List ℕ
@@ -48,7 +38,3 @@ module _ (p : List ℕ) (left at place to : ℕ) where
   pub next-length : to + length (cardLines p (suc left) at place) ≡ to + length this + length rest
   unfolding cardLines
   next-length = omega (arith, length-append this rest)
-
-  pub next-known : knownFrom p (suc left) at ≡ known (u16At p (at + 6)) + knownFrom p left (at + u32At p at)
-  unfolding knownFrom
-  next-known = refl

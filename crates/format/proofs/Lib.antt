@@ -51,6 +51,7 @@ pub mod Card
 pub mod DecimalLaws
 pub mod LinesFound
 pub mod PrintLaws
+pub mod KnownLaws
 pub mod CopyFound
 pub mod CardFound
 pub mod Samples

@@ -1,19 +1,17 @@
 -- The copy section by section: what is left after one, and the main header before them.
 -- Assumes nothing.
-use Prim.Native.Nat.{ℕ, zero, suc, _+_, _≤_}
-use mathlib.Core.Bool.{Bool, true, false, cond}
+use Prim.Native.Nat.{ℕ, zero, suc, _+_}
 use mathlib.Core.List.{List, []}
 use mathlib.Core.Path.{_≡_, refl, sym, _∙_}
 use native.Mathlib.Omega.{arith}
-use lib.Dec.{ltb}
 use lib.ListN.{length, length-append}
 use lib.Seq.{sets}
 use Rattle.wire.specs.Number.{u16At, u32At}
 use Rattle.wire.proofs.NumberLaws.{length-bytesOf}
 use Rattle.wire.proofs.Sets.{sets-append}
-use Rattle.layout.specs.Kinds.{known, sectionType}
+use Rattle.layout.specs.Kinds.{sectionType}
 use Rattle.layout.specs.declared.section_type.SourceInfoSectionType.the-variants.{Unknown}
-use Rattle.format.specs.CopyWalk.{copyAt, knownFrom, copiesFrom, copy}
+use Rattle.format.specs.CopyWalk.{copyAt, copiesFrom, copy}
 
 pub unknown-none : (p : List ℕ) (at n kind : ℕ) → sectionType n ≡ Unknown kind → copyAt p n at ≡ []
 unfolding copyAt
@@ -21,13 +19,6 @@ unknown-none p at zero kind e = let z : _≡_ {A = ℕ} 0 1 = cc in absurd (omeg
 unknown-none p at (suc zero) kind e = let z : _≡_ {A = ℕ} 0 1 = cc in absurd (omega arith)
 unknown-none p at (suc (suc zero)) kind e = let z : _≡_ {A = ℕ} 0 1 = cc in absurd (omega arith)
 unknown-none p at (suc (suc (suc n))) kind e = refl
-
-pub known-least : (kind : ℕ) → known kind ≤ 1
-known-least kind = go (ltb kind 3)
-  where
-    go : (b : Bool) → cond b 1 0 ≤ 1
-    go true = omega arith
-    go false = omega arith
 
 module _ (p : List ℕ) (left at to : ℕ) where
   abbrev this : List ℕ
@@ -43,10 +34,6 @@ module _ (p : List ℕ) (left at to : ℕ) where
   pub next-length : to + length (copiesFrom p (suc left) at) ≡ to + length this + length rest
   unfolding copiesFrom
   next-length = omega (arith, length-append this rest)
-
-  pub next-known : knownFrom p (suc left) at ≡ known (u16At p (at + 6)) + knownFrom p left (at + u32At p at)
-  unfolding knownFrom
-  next-known = refl
 
 -- ---- the whole copy
 

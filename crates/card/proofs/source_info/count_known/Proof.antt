@@ -7,8 +7,8 @@ use native.Mathlib.Omega.{arith}
 use borrow.Author.Needs.{needs}
 use Rattle.layout.specs.Kinds.{known}
 use Rattle.format.specs.CopyWalk.{knownFrom}
+use Rattle.format.proofs.KnownLaws.{known-least, next-known}
 use Rattle.format.proofs.Walking.{one-fewer}
-use Rattle.card.proofs.CardLaws.{known-least, next-known}
 use Rattle.card.proofs.source_info.count_known.Statement.{statement}
 use Rattle.card.proofs.source_info.count_known.Tie as tie
 
@@ -66,7 +66,7 @@ loop-again c =
       omega arith,
       omega arith,
       omega (arith, k .known .ensures, known-least (n .read-u16 .result)),
-      rw (c .read-u32 .ensures) (omega (arith, kinds, next-known p left at 0 0, rw fewer at (i .loop .inv .3))),
+      rw (c .read-u32 .ensures) (omega (arith, kinds, next-known p left at, rw fewer at (i .loop .inv .3))),
     )
 
 returns : tie.Need-returns Inv-loop μ-loop

@@ -10,8 +10,9 @@ use lib.Seq.{sets}
 use Rattle.wire.specs.Number.{u16At}
 use Rattle.layout.specs.Kinds.{known}
 use Rattle.format.specs.CardWalk.{cardLines}
+use Rattle.format.proofs.KnownLaws.{known-least}
 use Rattle.format.proofs.Walking.{one-fewer}
-use Rattle.card.proofs.CardLaws.{known-least, next-stored, next-length}
+use Rattle.card.proofs.CardLaws.{next-stored, next-length}
 use Rattle.card.proofs.source_info.write_lines.Statement.{statement}
 use Rattle.card.proofs.source_info.write_lines.Tie as tie
 

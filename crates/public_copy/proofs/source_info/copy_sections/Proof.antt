@@ -16,8 +16,9 @@ use Rattle.layout.proofs.Checked.{is-good}
 use Rattle.format.specs.CopyWalk.{knownFrom, copiesFrom}
 use Rattle.format.specs.Parse as Parse
 use Rattle.format.proofs.SectionLaws.{sections-good}
+use Rattle.format.proofs.KnownLaws.{known-least, next-known}
 use Rattle.format.proofs.Walking.{one-fewer}
-use Rattle.public_copy.proofs.CopyLaws.{known-least, next-stored, next-length, next-known}
+use Rattle.public_copy.proofs.CopyLaws.{next-stored, next-length}
 use Rattle.public_copy.proofs.source_info.copy_sections.Statement.{statement}
 use Rattle.public_copy.proofs.source_info.copy_sections.Tie as tie
 
@@ -116,7 +117,7 @@ loop-again c =
       omega (arith, most),
       t .within,
       omega (arith, k .known .ensures, known-least (n .read-u16 .result)),
-      omega (arith, kinds, next-known p left at end, rw fewer at (i .loop .inv .5)),
+      omega (arith, kinds, next-known p left at, rw fewer at (i .loop .inv .5)),
       omega (arith, next, next-length p left at end, rw fewer at (i .loop .inv .6)),
       rw (out, next) (next-stored p left at end (i .loop .output) _ (rw fewer at (i .loop .inv .7))),
       w .copy-section .kept .1 .1 .0 ∙ i .loop .inv .8,
