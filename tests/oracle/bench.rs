@@ -1,21 +1,16 @@
-//! Times `srci_read` against `parse_srci`, `srci_write` against `write_payload`, `srci_list` against `parse_srci`
-//! with `Display`, and `srci_public_copy` against `parse_srci` with `write_payload`, and how the times of the last
-//! three grow, and prints tables in Markdown.
+//! Times the C entry points against the Rust, and how the times of all but `srci_read` grow, and prints tables in
+//! Markdown.
 //!
-//! Both get the same payload, which is in memory. `srci_read` fills a table that is large enough and
-//! that was written before. `parse_srci` allocates what it makes; freeing it is not counted. It also
-//! writes the payload anew, since its result holds that too.
+//! Both get the same payload, which is in memory. Here the table or the output is just long enough and was written
+//! before. The Rust allocates what it makes; freeing it is not counted.
 //!
-//! Both write the same sections: `srci_write` to an output that is just long enough and that was written
-//! before, `write_payload` to what it allocates.
-//!
-//! Both list the same payload: `srci_list` to an output that is just long enough and that was written before.
-//! The Rust's time is that of `parse_srci`, as above, and of `to_string` on what it gives.
-//!
-//! Both copy the same payload: `srci_public_copy` to an output that is just long enough and that was written
-//! before. The Rust's time is that of `parse_srci`, of the edit of the sections, and of `write_payload`.
+//! - reading: the Rust's time is that of `parse_srci`. It also writes the payload anew, since its result holds that too.
+//! - writing: that of `write_payload`, of the same sections.
+//! - listing: that of `parse_srci`, and of `to_string` on what it gives.
+//! - public copies: that of `parse_srci`, of the edit of the sections, and of `write_payload`.
+//! - cards: that of the public copy, and of its listing.
 use crate::boundaries::LIMIT;
-use crate::call::{list, public_copy, read, write, Job, UNTOUCHED, UNTOUCHED_BYTE};
+use crate::call::{card, list, make, public_copy, read, write, Job, UNTOUCHED, UNTOUCHED_BYTE};
 use crate::compare::WIDTH;
 use crate::payloads::{arguments, contents, names, payload};
 use crate::rust_made::{document, make_public};
@@ -37,7 +32,10 @@ const INPUTS: [Input; 8] = [
         payload(&[contents(0, &[vec![b'a'; LIMIT / part - 49]])])
     }),
     ("one content, CJK", |part| {
-        payload(&[contents(0, &["漢".repeat(LIMIT / part / 3 - 17).into_bytes()])])
+        payload(&[contents(
+            0,
+            &["漢".repeat(LIMIT / part / 3 - 17).into_bytes()],
+        )])
     }),
     ("one content, mixed", |part| {
         let piece = "float4 main() // é 漢字 \u{1F600}\n";
@@ -69,13 +67,21 @@ pub fn run() {
     table("reading", "rows", read_row);
     table("writing", "rows", write_row);
     growth("writing", write_time);
-    table("listing", "bytes listed", list_row);
+    table("listing", "bytes listed", |input, payload| {
+        made_row(input, payload, list, rust_list)
+    });
     growth("listing", |payload| output_time(list, payload));
-    table("public copies", "bytes of the copy", copy_row);
+    table("public copies", "bytes of the copy", |input, payload| {
+        made_row(input, payload, public_copy, rust_copy)
+    });
     growth("public copies", |payload| output_time(public_copy, payload));
+    table("cards", "bytes of the card", |input, payload| {
+        made_row(input, payload, card, rust_card)
+    });
+    growth("cards", |payload| output_time(card, payload));
 }
 
-/// Nanoseconds for each byte of the payload that is written, listed or copied, at each part of the limit.
+/// Nanoseconds for each byte of the payload, at each part of the limit.
 fn growth(job: &str, time: fn(&[u8]) -> Duration) {
     println!("| {job}, ns a byte | a sixteenth | a quarter | all |");
     println!("|---|--:|--:|--:|");
@@ -180,45 +186,40 @@ fn write_row(input: &str, payload: &[u8]) {
     print_row(input, payload, rows, rust, here);
 }
 
-fn list_row(input: &str, payload: &[u8]) {
-    let text = parse_srci(payload).unwrap().to_string();
-    let mut output = vec![UNTOUCHED_BYTE; text.len()];
-    assert_eq!(list(payload, &mut output).number, 0, "{input}");
-    assert!(output == text.as_bytes(), "{input}");
-    let rust = best(|| {
-        let start = Instant::now();
-        let parsed = black_box(parse_srci(black_box(payload))).unwrap();
-        let text = black_box(parsed.to_string());
-        let took = start.elapsed();
-        drop((parsed, text));
-        took
-    });
-    let here = output_time(list, payload);
-    print_row(input, payload, text.len(), rust, here);
+/// Hands on what the Rust makes of a payload, and then frees all that it allocated.
+type Rust = fn(&[u8], &mut dyn FnMut(&[u8]));
+
+fn rust_list(payload: &[u8], done: &mut dyn FnMut(&[u8])) {
+    let parsed = black_box(parse_srci(black_box(payload))).unwrap();
+    let text = black_box(parsed.to_string());
+    done(text.as_bytes());
 }
 
-fn copy_row(input: &str, payload: &[u8]) {
-    let rust_copy = || {
-        let mut parsed = black_box(parse_srci(black_box(payload))).unwrap();
-        let mut sections = std::mem::take(&mut parsed.sections);
-        make_public(&mut sections);
-        let public = document(sections);
-        let copy = black_box(public.write_payload());
-        (copy, parsed, public)
-    };
-    let (copy, ..) = rust_copy();
-    let mut output = vec![UNTOUCHED_BYTE; copy.len()];
-    assert_eq!(public_copy(payload, &mut output).number, 0, "{input}");
-    assert!(output == copy, "{input}");
+fn rust_copy(payload: &[u8], done: &mut dyn FnMut(&[u8])) {
+    let mut parsed = black_box(parse_srci(black_box(payload))).unwrap();
+    let mut sections = std::mem::take(&mut parsed.sections);
+    make_public(&mut sections);
+    let public = document(sections);
+    let copy = black_box(public.write_payload());
+    done(&copy);
+}
+
+fn rust_card(payload: &[u8], done: &mut dyn FnMut(&[u8])) {
+    rust_copy(payload, &mut |copy| rust_list(copy, done));
+}
+
+fn made_row(input: &str, payload: &[u8], job: Job, rust: Rust) {
+    let mut made = vec![];
+    rust(payload, &mut |bytes| made = bytes.to_vec());
+    assert!(make(job, payload).is_ok_and(|here| here == made), "{input}");
     let rust = best(|| {
+        let mut took = Duration::ZERO;
         let start = Instant::now();
-        let made = rust_copy();
-        let took = start.elapsed();
-        drop(made);
+        rust(payload, &mut |_| took = start.elapsed());
         took
     });
-    let here = output_time(public_copy, payload);
-    print_row(input, payload, copy.len(), rust, here);
+    let here = output_time(job, payload);
+    print_row(input, payload, made.len(), rust, here);
 }
 
 fn print_row(input: &str, payload: &[u8], made: usize, rust: Duration, here: Duration) {

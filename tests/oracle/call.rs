@@ -1,4 +1,4 @@
-//! Calls of `srci_read`, `srci_write`, `srci_list` and `srci_public_copy`, the C entry points.
+//! Calls of the C entry points.
 
 #[link(name = "srci", kind = "static")]
 extern "C" {
@@ -18,22 +18,6 @@ extern "C" {
         edit_length: usize,
         rows: *const u32,
         rows_length: usize,
-        output: *mut u8,
-        output_length: usize,
-        second: *mut u32,
-    ) -> u32;
-
-    fn srci_list(
-        payload: *const u8,
-        payload_length: usize,
-        output: *mut u8,
-        output_length: usize,
-        second: *mut u32,
-    ) -> u32;
-
-    fn srci_public_copy(
-        payload: *const u8,
-        payload_length: usize,
         output: *mut u8,
         output_length: usize,
         second: *mut u32,
@@ -79,34 +63,49 @@ pub fn write(payload: &[u8], edit: &[u8], rows: &[u32], output: &mut [u8]) -> An
     Answer { number, second }
 }
 
-pub fn list(payload: &[u8], output: &mut [u8]) -> Answer {
-    let mut second = UNTOUCHED;
-    // SAFETY: each pointer and length is that of a slice, and srci_list has no `requires`.
-    let number = unsafe {
-        srci_list(
-            payload.as_ptr(),
-            payload.len(),
-            output.as_mut_ptr(),
-            output.len(),
-            &mut second,
-        )
+/// A job that takes a payload and an output, and its entry point.
+macro_rules! job {
+    ($job:ident, $entry:ident) => {
+        extern "C" {
+            fn $entry(
+                payload: *const u8,
+                payload_length: usize,
+                output: *mut u8,
+                output_length: usize,
+                second: *mut u32,
+            ) -> u32;
+        }
+
+        pub fn $job(payload: &[u8], output: &mut [u8]) -> Answer {
+            let mut second = UNTOUCHED;
+            // SAFETY: each pointer and length is that of a slice, and the entry point has no `requires`.
+            let number = unsafe {
+                $entry(
+                    payload.as_ptr(),
+                    payload.len(),
+                    output.as_mut_ptr(),
+                    output.len(),
+                    &mut second,
+                )
+            };
+            Answer { number, second }
+        }
     };
-    Answer { number, second }
 }
 
-pub fn public_copy(payload: &[u8], output: &mut [u8]) -> Answer {
-    let mut second = UNTOUCHED;
-    // SAFETY: each pointer and length is that of a slice, and srci_public_copy has no `requires`.
-    let number = unsafe {
-        srci_public_copy(
-            payload.as_ptr(),
-            payload.len(),
-            output.as_mut_ptr(),
-            output.len(),
-            &mut second,
-        )
-    };
-    Answer { number, second }
+job!(list, srci_list);
+job!(public_copy, srci_public_copy);
+job!(card, srci_card);
+
+pub type Job = fn(&[u8], &mut [u8]) -> Answer;
+
+/// What a job makes of a payload, or the number of its refusal.
+pub fn make(job: Job, payload: &[u8]) -> Result<Vec<u8>, u32> {
+    let mut output = vec![UNTOUCHED_BYTE; job(payload, &mut []).second as usize];
+    match job(payload, &mut output).number {
+        0 => Ok(output),
+        number => Err(number),
+    }
 }
 
 /// What every number of a table, and of the canaries beside it, holds before a call.
@@ -158,9 +157,6 @@ pub fn write_guarded(
     }
     Ok((answer, between_canaries(bytes, lent)?))
 }
-
-/// Listing, or making the public copy.
-pub type Job = fn(&[u8], &mut [u8]) -> Answer;
 
 /// Does a job with an output of some length that has canaries on both sides. Gives the answer and the output
 /// afterwards, or says what else was changed.

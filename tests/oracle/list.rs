@@ -8,7 +8,7 @@ pub fn totals() -> Outputs {
 }
 
 /// A byte short, the last line short, the first line alone, nothing.
-fn shorter(text: &[u8]) -> Vec<usize> {
+pub fn shorter(text: &[u8]) -> Vec<usize> {
     let needed = text.len();
     let lines = || (0..needed).filter(|&at| text[at] == b'\n').map(|at| at + 1);
     let last = lines().rev().nth(1).unwrap_or(0);

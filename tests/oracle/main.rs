@@ -1,8 +1,8 @@
-//! The oracle: holds `srci_read`, `srci_write`, `srci_list` and `srci_public_copy` to the published Rust. run.sh
-//! builds it and says how to call it.
+//! The oracle: holds the C entry points to the published Rust. run.sh builds it and says how to call it.
 mod bench;
 mod boundaries;
 mod call;
+mod card;
 mod compare;
 mod copy;
 mod copy_boundaries;
@@ -19,6 +19,7 @@ mod tables;
 mod write;
 mod write_boundaries;
 
+use card::CardTotals;
 use compare::{Compare, Totals};
 use copy::CopyTotals;
 use damage::damage;
@@ -36,6 +37,7 @@ fn main() {
             compare_writing(number(count), number(seed));
             compare_listing(number(count), number(seed));
             compare_copying(number(count), number(seed));
+            compare_card(number(count), number(seed));
             compare_pairs(number(count), number(seed));
         }
         _ => usage(),
@@ -84,15 +86,26 @@ fn compare_listing(count: u64, seed: u64) {
     totals.print();
 }
 
-/// Every boundary of reading, of listing and of its own, then random payloads, others than those before.
 fn compare_copying(count: u64, seed: u64) {
     let mut totals = CopyTotals::new();
-    boundaries::compare_all(&mut totals);
-    list_boundaries::compare_all(&mut totals);
-    copy_boundaries::compare_all(&mut totals);
-    compare_random(&mut totals, count, &mut Random::new(seed ^ 0x00C0_FFEE));
+    compare_public(&mut totals, count, seed ^ 0x00C0_FFEE);
     println!("public copies");
     totals.print();
+}
+
+fn compare_card(count: u64, seed: u64) {
+    let mut totals = CardTotals::new();
+    compare_public(&mut totals, count, seed ^ 0x0CA5_CADE);
+    println!("cards");
+    totals.print();
+}
+
+/// Every boundary of reading, of listing and of copying, then random payloads, others than those before.
+fn compare_public(totals: &mut impl Compare, count: u64, seed: u64) {
+    boundaries::compare_all(totals);
+    list_boundaries::compare_all(totals);
+    copy_boundaries::compare_all(totals);
+    compare_random(totals, count, &mut Random::new(seed));
 }
 
 /// Small payloads, then random ones, each beside others.

@@ -1,7 +1,7 @@
-//! Pairs of payloads, and what their public copies tell of them: two copies are equal just where the public facts
-//! are, which are read off what the Rust parses.
+//! Pairs of payloads, and what their public copies and cards tell of them: two copies are equal just where the public
+//! facts are, which are read off what the Rust parses; and there the calls that make copies and cards tell no more.
 use crate::boundaries;
-use crate::call::{public_copy, UNTOUCHED_BYTE};
+use crate::call::{card, make, public_copy, Job};
 use crate::compare::fail;
 use crate::damage::damage;
 use crate::payloads::{any_payload, Random, GOOD};
@@ -49,32 +49,9 @@ fn facts(payload: &[u8]) -> Option<Vec<Fact>> {
     Some(parsed.sections.iter().filter_map(fact).collect())
 }
 
-/// The public copy. An output as long as the payload is long enough for it.
-fn copy(payload: &[u8]) -> Vec<u8> {
-    let mut output = vec![UNTOUCHED_BYTE; payload.len()];
-    let answer = public_copy(payload, &mut output);
-    if answer.number != 0 {
-        fail(
-            payload,
-            payload.len(),
-            &format!("the number is {}", answer.number),
-        );
-    }
-    output.truncate(answer.second as usize);
-    output
-}
-
-/// Whether the copies of two payloads are equal, which the facts must be too. `None` where the Rust refuses one.
-fn compare_pair(payload: &[u8], other: &[u8]) -> Option<bool> {
-    let is_told = facts(payload)? == facts(other)?;
-    let is_equal = copy(payload) == copy(other);
-    if is_equal != is_told {
-        let what = format!(
-            "that the copies are equal is {is_equal}, the facts {is_told}; other: {other:02x?}"
-        );
-        fail(payload, payload.len(), &what);
-    }
-    Some(is_equal)
+/// What a job makes of a payload that the Rust accepts.
+fn made(job: Job, payload: &[u8]) -> Vec<u8> {
+    make(job, payload).unwrap_or_else(|number| fail(payload, 0, &format!("the number is {number}")))
 }
 
 #[derive(Default)]
@@ -84,9 +61,52 @@ pub struct PairTotals {
     damaged: u64,
     others: u64,
     others_equal: u64,
+    calls: u64,
 }
 
 impl PairTotals {
+    /// Whether the copies of two payloads are equal, which the facts must be too. `None` where the Rust refuses one.
+    fn compare_pair(&mut self, payload: &[u8], other: &[u8]) -> Option<bool> {
+        let is_told = facts(payload)? == facts(other)?;
+        let is_equal = made(public_copy, payload) == made(public_copy, other);
+        if is_equal != is_told {
+            let what = format!(
+                "that the copies are equal is {is_equal}, the facts {is_told}; other: {other:02x?}"
+            );
+            fail(payload, payload.len(), &what);
+        }
+        if is_equal {
+            self.compare_calls(public_copy, payload, other);
+            self.compare_calls(card, payload, other);
+        }
+        Some(is_equal)
+    }
+
+    /// With outputs of one length, which hold different bytes, a job must give one answer for two payloads, and store
+    /// the same bytes.
+    fn compare_calls(&mut self, job: Job, payload: &[u8], other: &[u8]) {
+        let bytes = made(job, payload);
+        let needed = bytes.len();
+        for lent in [needed + 5, needed, needed - 1, needed / 2, 0] {
+            let (number, stored) = if lent < needed {
+                (19, &[][..])
+            } else {
+                (0, &bytes[..])
+            };
+            for (payload, held) in [(payload, 0), (other, 0xFF)] {
+                let mut output = vec![held; lent];
+                let answer = job(payload, &mut output);
+                let mut expected = stored.to_vec();
+                expected.resize(lent, held);
+                let told = (answer.number, answer.second as usize, output);
+                if told != (number, needed, expected) {
+                    fail(payload, lent, "payloads with equal facts differ in it");
+                }
+                self.calls += 1;
+            }
+        }
+    }
+
     /// Each small payload, changed many times in one place.
     pub fn compare_small(&mut self, random: &mut Random) {
         for payload in boundaries::small() {
@@ -103,10 +123,10 @@ impl PairTotals {
             self.compare_changed(random, &payload);
             let mut damaged = payload.clone();
             damage(random, &mut damaged);
-            if compare_pair(&payload, &damaged).is_some() {
+            if self.compare_pair(&payload, &damaged).is_some() {
                 self.damaged += 1;
             }
-            if let Some(is_equal) = compare_pair(&payload, &last) {
+            if let Some(is_equal) = self.compare_pair(&payload, &last) {
                 self.others += 1;
                 self.others_equal += u64::from(is_equal);
             }
@@ -117,7 +137,7 @@ impl PairTotals {
     /// A payload, and what a change of a secret and a change of a fact make of it.
     fn compare_changed(&mut self, random: &mut Random, payload: &[u8]) {
         let changed = change(payload, |sections| change_secret(random, sections));
-        if payload == changed || compare_pair(payload, &changed) != Some(true) {
+        if payload == changed || self.compare_pair(payload, &changed) != Some(true) {
             fail(
                 &changed,
                 0,
@@ -126,7 +146,7 @@ impl PairTotals {
         }
         self.secret += 1;
         let changed = change(payload, |sections| change_public(random, sections));
-        if compare_pair(payload, &changed) != Some(false) {
+        if self.compare_pair(payload, &changed) != Some(false) {
             fail(
                 &changed,
                 0,
@@ -146,6 +166,10 @@ impl PairTotals {
         println!(
             "{} pairs of two payloads, {} of them with equal copies",
             self.others, self.others_equal
+        );
+        println!(
+            "{} calls on pairs with equal copies, the same on both payloads",
+            self.calls
         );
     }
 }

@@ -5,15 +5,15 @@
 //! of the stored rows. Each payload has a table that is exactly full, one that is longer, and one that is a
 //! number short.
 //!
-//! Of listing, and of making public copies: the payload in hex, how many bytes are lent, the number, the second
-//! number, and the stored bytes in hex. Each payload has an output that is exactly full, one that is longer, one
-//! that is a byte short, and none.
+//! Of listing, of making public copies, and of cards: the payload in hex, how many bytes are lent, the number, the
+//! second number, and the stored bytes in hex. Each payload has an output that is exactly full, one that is longer,
+//! one that is a byte short, and none.
 mod payloads;
 mod rust_made;
 mod rust_rows;
 
 use payloads::{any_payload, Random};
-use rust_made::{copy, list, Made};
+use rust_made::{card, copy, list, Made};
 use rust_rows::{parse, Parsed};
 
 /// No payload is longer, in bytes.
@@ -37,8 +37,9 @@ fn main() {
         (Some("rows"), &[count, seed]) => print_reading(count, &mut Random::new(seed)),
         (Some("listings"), &[count, seed]) => print_made(count, &mut Random::new(seed), list),
         (Some("copies"), &[count, seed]) => print_made(count, &mut Random::new(seed), copy),
+        (Some("cards"), &[count, seed]) => print_made(count, &mut Random::new(seed), card),
         _ => {
-            eprintln!("usage: rows COUNT SEED | listings COUNT SEED | copies COUNT SEED");
+            eprintln!("usage: rows | listings | copies | cards, then COUNT SEED");
             std::process::exit(2);
         }
     }

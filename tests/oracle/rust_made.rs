@@ -1,4 +1,4 @@
-//! What the Rust makes of a payload: the listing and the public copy.
+//! What the Rust makes of a payload: the listing, the public copy and the card.
 use crate::rust_rows::catch;
 use chunks::srci::{
     parse_srci, SourceContentData, SourceInfo, SourceInfoSection, SourceInfoSectionData,
@@ -26,6 +26,14 @@ pub fn copy(payload: &[u8]) -> Made {
         make_public(&mut parsed.sections);
         document(parsed.sections).write_payload()
     })
+}
+
+/// What `Display` gives of the public copy, parsed anew.
+pub fn card(payload: &[u8]) -> Made {
+    match copy(payload) {
+        Made::Bytes(copy) => list(&copy),
+        none => none,
+    }
 }
 
 fn made(payload: &[u8], make: fn(SourceInfo) -> Vec<u8>) -> Made {

@@ -4,18 +4,20 @@ r"""Writes the calls and the expected answers of the program replay.
     tests/oracle/run.sh PATH_TO_SRCI_RS rows 300 1 > target/rows.tsv
     tests/oracle/run.sh PATH_TO_SRCI_RS listings 100 2 > target/listings.tsv
     tests/oracle/run.sh PATH_TO_SRCI_RS copies 100 3 > target/copies.tsv
+    tests/oracle/run.sh PATH_TO_SRCI_RS cards 60 4 > target/cards.tsv
     tests/replay/make.py read READ read tests/replay/samples.tsv read target/rows.tsv write WRITE \
         list LIST list tests/replay/list_samples.tsv list target/listings.tsv \
-        public_copy COPY public_copy target/copies.tsv
+        public_copy COPY public_copy target/copies.tsv card REFUSED card target/cards.tsv
 
 The arguments are jobs, each with a list of its calls. READ, WRITE, LIST and COPY are the lists of an
-independent model of document 01; they are not in this repository.
+independent model of document 01; they are not in this repository. REFUSED has, for each refusal from 2 to 15,
+the first three calls of COPY that get it: a refused payload has no public copy, and so no card.
 
 A list has a call to a line, its fields parted by tabs; '-' is empty, bytes are hex, and lists have commas. A
 line that begins with '#' is passed over. Of reading: the payload, how many numbers are lent, the number,
 the second number, and the numbers of the stored rows. Of writing: the payload, the edit text, the table's
-numbers, how many bytes are lent, the number, the second number, and the stored bytes. Of listing, and of
-making public copies: the payload, how many bytes are lent, the number, the second number, and the stored bytes.
+numbers, how many bytes are lent, the number, the second number, and the stored bytes. Of listing, of
+making public copies, and of making cards: the payload, how many bytes are lent, the number, the second number, and the stored bytes.
 """
 import pathlib
 import sys
@@ -50,7 +52,7 @@ def made(payload, lent, number, second, stored):
     return [lent, payload], [number, second, str(BYTES - len(stored) // 2), stored]
 
 
-JOBS = {"read": read, "write": write, "list": made, "public_copy": made}
+JOBS = {"read": read, "write": write, "list": made, "public_copy": made, "card": made}
 
 
 def main(words):

@@ -3,7 +3,7 @@ use Prim.Native.Nat.{ℕ, _+_}
 use mathlib.Core.Bool.{true, false}
 use mathlib.Core.List.{List, [], _∷_, _++_}
 use mathlib.Core.Path.{_≡_}
-use lib.ListN.{length, drop}
+use lib.ListN.{length}
 use Rattle.layout.specs.Checked.{Checked, good, then}
 use Rattle.layout.specs.declared.refusal.Answer.{Answer}
 use Rattle.format.specs.Display.{plainLine, packedLine, namesLine, argumentsLine, heading, line}
@@ -13,7 +13,7 @@ use Rattle.format.specs.Print.{printed}
 use Rattle.format.specs.PublicCopy.{publicCopy}
 use Rattle.format.specs.PublicFacts.{Fact, publicFacts}
 use Rattle.format.specs.PublicFacts as fact
-use Rattle.format.specs.Secrecy.{AcceptedPayload}
+use Rattle.format.specs.Secrecy.{AcceptedPayload, SameCallOf}
 
 -- the public copy, then its listing; or reading's refusal
 unfoldable pub cardOf : List ℕ → Checked (List ℕ)
@@ -53,15 +53,6 @@ shown facts = heading (length facts) ++ factLines 0 facts
 abbrev pub CardOfFacts : Type 0
 CardOfFacts = (p : List ℕ) → AcceptedPayload p → cardOf p ≡ good (shown (publicFacts p))
 
--- with equal facts, and outputs of one length that hold whatever they hold, the answer is the same, and each output afterwards is the same bytes
--- followed by what it held; too short an output holds none of them
+-- with equal facts, the same answer and the same stored bytes
 abbrev pub SameCardCall : Type 0
-SameCardCall =
-    (p q : List ℕ) →
-    AcceptedPayload p →
-    AcceptedPayload q →
-    publicFacts p ≡ publicFacts q →
-    (o₁ o₂ : List ℕ) →
-    length o₁ ≡ length o₂ →
-    (cardAnswer p (length o₁) ≡ cardAnswer q (length o₂))
-    × ((bytes : List ℕ) × (cardOutput p o₁ ≡ bytes ++ drop (length bytes) o₁) × (cardOutput q o₂ ≡ bytes ++ drop (length bytes) o₂))
+SameCardCall = SameCallOf cardAnswer cardOutput

@@ -8,6 +8,7 @@ use lib.ListN.{length, drop, replicate}
 use Rattle.layout.specs.Checked.{good}
 use Rattle.layout.specs.declared.refusal.Refusal.{Refusal}
 use Rattle.layout.specs.declared.refusal.Refusal.the-variants.{NoRoom}
+use Rattle.layout.specs.declared.refusal.Answer.{Answer}
 use Rattle.layout.specs.declared.refusal.Answer.the-variants.{Refused}
 use Rattle.format.specs.Encoding.{encode}
 use Rattle.format.specs.PublicCopy.{publicCopy, copyAnswer, copyOutput}
@@ -48,18 +49,21 @@ EqualExactly =
 
 -- ---- the same call
 
--- with equal facts, and outputs of one length that hold whatever they hold, the answer is the same, and each output afterwards is the same bytes
--- followed by what it held; too short an output holds none of them
-abbrev pub SameCall : Type 0
-SameCall =
+-- of a job, by what it answers and what it leaves in its output: with equal facts, and outputs of one length that hold whatever they hold, the
+-- answer is the same, and each output afterwards is the same bytes followed by what it held; too short an output holds none of them
+abbrev pub SameCallOf : (List ℕ → ℕ → Answer) → (List ℕ → List ℕ → List ℕ) → Type 0
+SameCallOf answers leaves =
     (p q : List ℕ) →
     AcceptedPayload p →
     AcceptedPayload q →
     publicFacts p ≡ publicFacts q →
     (o₁ o₂ : List ℕ) →
     length o₁ ≡ length o₂ →
-    (copyAnswer p (length o₁) ≡ copyAnswer q (length o₂))
-    × ((bytes : List ℕ) × (copyOutput p o₁ ≡ bytes ++ drop (length bytes) o₁) × (copyOutput q o₂ ≡ bytes ++ drop (length bytes) o₂))
+    (answers p (length o₁) ≡ answers q (length o₂))
+    × ((bytes : List ℕ) × (leaves p o₁ ≡ bytes ++ drop (length bytes) o₁) × (leaves q o₂ ≡ bytes ++ drop (length bytes) o₂))
+
+abbrev pub SameCall : Type 0
+SameCall = SameCallOf copyAnswer copyOutput
 
 -- ---- each public copy
 

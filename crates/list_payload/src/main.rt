@@ -2,7 +2,7 @@
 //
 // The file stdin holds document 01's sample of 76 bytes: the name `a` with content size 5, then the pair `E`,
 // `main`. It was put together by hand from the layout; stdout has the three lines that document 01 prints for
-// it. tests/list_payload/run.sh runs the program on every other kind of input.
+// it. tests/programs/run.sh runs the program on every other kind of input.
 use libc::STDIN_FILENO;
 use libc::STDOUT_FILENO;
 

@@ -7,8 +7,8 @@
 // - `write LENT PAYLOAD EDIT ROWS`: how many bytes are lent, the payload, the edit text, and the numbers of
 //   the rows with commas between; `-` is none. Answered: how many bytes of the output were left as they were,
 //   and the stored bytes.
-// - `list LENT PAYLOAD` and `public_copy LENT PAYLOAD`: how many bytes are lent, and the payload. Answered as a
-//   call of writing is.
+// - `list LENT PAYLOAD`, `public_copy LENT PAYLOAD` and `card LENT PAYLOAD`: how many bytes are lent, and the
+//   payload. Answered as a call of writing is.
 // The table has 128 numbers and the output 512 bytes, of which a call is lent the first ones, so that a store
 // past those would show.
 //
@@ -28,6 +28,10 @@
 // Of making public copies:
 // - 108 calls worked out by that model;
 // - 100 calls whose copy the published Rust wrote (tests/oracle/rows.rs), with outputs as for those of listing.
+// Of making cards:
+// - 42 calls with payloads that the model refuses to copy, three for each refusal from 2 to 15;
+// - 60 calls whose card the published Rust printed of the copy that it wrote (tests/oracle/rows.rs), with outputs
+//   as for those of listing.
 ghost use Prim.Native.Nat.{_≤_};
 ghost use lib.ListN.{length};
 use layout::Answer;
@@ -244,20 +248,26 @@ fn replay_write<'a>(payload: &'a [u8], edit: &'a [u8], rows: &[u32], lent: usize
     print_output(&output, stored(answer, BYTES));
 }
 
-// The public copy, or else the listing: both take a payload and an output.
-fn copy_or_list(payload: &[u8], output: &mut [u8], is_copy: bool) -> Answer {
-    if is_copy {
-        public_copy::public_copy(payload, output)
-    } else {
-        listing::list(payload, output)
+// A job that takes a payload and an output.
+enum Job {
+    List,
+    PublicCopy,
+    Card,
+}
+
+fn make(job: Job, payload: &[u8], output: &mut [u8]) -> Answer {
+    match job {
+        Job::List => listing::list(payload, output),
+        Job::PublicCopy => public_copy::public_copy(payload, output),
+        Job::Card => card::card(payload, output),
     }
 }
 
-fn replay_copy_or_list(payload: &[u8], lent: usize, is_copy: bool)
+fn replay_made(job: Job, payload: &[u8], lent: usize)
     requires { ⌜ lent ≤ 512 ⌝ }
 {
     let mut output = [UNTOUCHED_BYTE; BYTES];
-    let answer = copy_or_list(payload, &mut output[..lent], is_copy);
+    let answer = make(job, payload, &mut output[..lent]);
     print_answer(answer);
     print_output(&output, stored(answer, BYTES));
 }
@@ -316,8 +326,8 @@ fn write_line(fields: &[u8]) {
     write_fields(&fields[start..], lent);
 }
 
-// What a call of copying or of listing is given, as data/calls.txt has it. Anything else prints nothing.
-fn copy_or_list_line(fields: &[u8], is_copy: bool) {
+// What a call of such a job is given, as data/calls.txt has it. Anything else prints nothing.
+fn made_line(job: Job, fields: &[u8]) {
     let space = find(fields, 0, b' ');
     if space == fields.len() {
         return;
@@ -329,7 +339,7 @@ fn copy_or_list_line(fields: &[u8], is_copy: bool) {
     let start = space + 1;
     let mut payload = io::buffer();
     let count = decode(&fields[start..], &mut payload);
-    replay_copy_or_list(&payload[..count], lent, is_copy);
+    replay_made(job, &payload[..count], lent);
 }
 
 // A call of the job that the line begins with. A line that names no job prints nothing.
@@ -339,15 +349,22 @@ fn replay_line(line: &[u8]) {
         return;
     }
     let start = space + 1;
-    if check::same(&line[..space], b"read") {
-        read_line(&line[start..]);
+    let word = &line[..space];
+    let fields = &line[start..];
+    if check::same(word, b"read") {
+        read_line(fields);
     }
-    if check::same(&line[..space], b"write") {
-        write_line(&line[start..]);
+    if check::same(word, b"write") {
+        write_line(fields);
     }
-    let is_copy = check::same(&line[..space], b"public_copy");
-    if is_copy || check::same(&line[..space], b"list") {
-        copy_or_list_line(&line[start..], is_copy);
+    if check::same(word, b"list") {
+        made_line(Job::List, fields);
+    }
+    if check::same(word, b"public_copy") {
+        made_line(Job::PublicCopy, fields);
+    }
+    if check::same(word, b"card") {
+        made_line(Job::Card, fields);
     }
 }
 

@@ -80,19 +80,21 @@ pub extern "C" fn srci_public_copy(payload: &[u8], output: &mut [u8], second: &m
     ensures { λ r. ⌜ r ≡ answerNumber (copyAnswer (now (payload .entry)) (length (now (output .entry)))) ⌝ }
     ensures { λ _. ⌜ now (output .exit) ≡ copyOutput (now (payload .entry)) (now (output .entry)) ⌝ }
     ensures { λ _. ⌜ now (second .exit) ≡ answerSecond (copyAnswer (now (payload .entry)) (length (now (output .entry)))) ⌝ }
-    ensures { λ r. ⌜ Called (now (payload .entry)) (now (output .entry)) r (now (output .exit)) (now (second .exit)) ⌝ }
+    ensures { λ r. ⌜ Called copyAnswer copyOutput (now (payload .entry)) (now (output .entry)) r (now (output .exit)) (now (second .exit)) ⌝ }
 {
     let answer = public_copy::public_copy(payload, output);
     tell(answer, second)
 }
 
 // Writes the card of a payload, which is the listing of its public copy, to a lent output. Answers 0, or the refusal's
-// number. Stores in `second` how many bytes were stored, or the refusal's second number.
+// number. Stores in `second` how many bytes were stored, or the refusal's second number. The last clause is for
+// `CardsTellFacts` (specs/Secrecy.antt).
 #[no_mangle]
 pub extern "C" fn srci_card(payload: &[u8], output: &mut [u8], second: &mut u32) -> u32
     ensures { λ r. ⌜ r ≡ answerNumber (cardAnswer (now (payload .entry)) (length (now (output .entry)))) ⌝ }
     ensures { λ _. ⌜ now (output .exit) ≡ cardOutput (now (payload .entry)) (now (output .entry)) ⌝ }
     ensures { λ _. ⌜ now (second .exit) ≡ answerSecond (cardAnswer (now (payload .entry)) (length (now (output .entry)))) ⌝ }
+    ensures { λ r. ⌜ Called cardAnswer cardOutput (now (payload .entry)) (now (output .entry)) r (now (output .exit)) (now (second .exit)) ⌝ }
 {
     let answer = card::card(payload, output);
     tell(answer, second)

@@ -16,77 +16,62 @@ returns c = search needs
 add-start : tie.Need-add-start
 add-start c = search needs
 
-slice-aggregate-same : tie.Need-slice-aggregate-same
-slice-aggregate-same c = sym (length-take-le _ _ (omega arith))
+slice-aggregate-word : tie.Need-slice-aggregate-word
+slice-aggregate-word c = sym (length-take-le _ _ (omega arith))
 
-slice-aggregate-same-2 : tie.Need-slice-aggregate-same-2
-slice-aggregate-same-2 c = search needs
+sub-fields : tie.Need-sub-fields
+sub-fields c = search needs
+
+part-fields-start : tie.Need-part-fields-start
+part-fields-start c = search needs
+
+part-fields-end : tie.Need-part-fields-end
+part-fields-end c = search needs
+
+slice-aggregate-same : tie.Need-slice-aggregate-same
+slice-aggregate-same c = search needs
 
 same-requires : tie.Need-same-requires
 same-requires c κs = search needs
 
-sub-read-line : tie.Need-sub-read-line
-sub-read-line c = search needs
-
-part-read-line-start : tie.Need-part-read-line-start
-part-read-line-start c = search needs
-
-part-read-line-end : tie.Need-part-read-line-end
-part-read-line-end c = search needs
-
 read-line-requires : tie.Need-read-line-requires
 read-line-requires c κs = search needs
 
-slice-aggregate-same-3 : tie.Need-slice-aggregate-same-3
-slice-aggregate-same-3 c = sym (length-take-le _ _ (omega arith))
-
-slice-aggregate-same-4 : tie.Need-slice-aggregate-same-4
-slice-aggregate-same-4 c = search needs
+slice-aggregate-same-2 : tie.Need-slice-aggregate-same-2
+slice-aggregate-same-2 c = search needs
 
 same-requires-2 : tie.Need-same-requires-2
 same-requires-2 c κs = search needs
 
-sub-write-line : tie.Need-sub-write-line
-sub-write-line c = search needs
-
-part-write-line-start : tie.Need-part-write-line-start
-part-write-line-start c = search needs
-
-part-write-line-end : tie.Need-part-write-line-end
-part-write-line-end c = search needs
-
 write-line-requires : tie.Need-write-line-requires
 write-line-requires c κs = search needs
 
-slice-aggregate-same-5 : tie.Need-slice-aggregate-same-5
-slice-aggregate-same-5 c = sym (length-take-le _ _ (omega arith))
-
-slice-aggregate-same-6 : tie.Need-slice-aggregate-same-6
-slice-aggregate-same-6 c = search needs
+slice-aggregate-same-3 : tie.Need-slice-aggregate-same-3
+slice-aggregate-same-3 c = search needs
 
 same-requires-3 : tie.Need-same-requires-3
 same-requires-3 c κs = search needs
 
-slice-aggregate-same-7 : tie.Need-slice-aggregate-same-7
-slice-aggregate-same-7 c = sym (length-take-le _ _ (omega arith))
+made-line-requires : tie.Need-made-line-requires
+made-line-requires c κs = search needs
 
-slice-aggregate-same-8 : tie.Need-slice-aggregate-same-8
-slice-aggregate-same-8 c = search needs
+slice-aggregate-same-4 : tie.Need-slice-aggregate-same-4
+slice-aggregate-same-4 c = search needs
 
 same-requires-4 : tie.Need-same-requires-4
 same-requires-4 c κs = search needs
 
-sub-copy-or-list-line : tie.Need-sub-copy-or-list-line
-sub-copy-or-list-line c = search needs
+made-line-requires-2 : tie.Need-made-line-requires-2
+made-line-requires-2 c κs = search needs
 
-part-copy-or-list-line-start : tie.Need-part-copy-or-list-line-start
-part-copy-or-list-line-start c = search needs
+slice-aggregate-same-5 : tie.Need-slice-aggregate-same-5
+slice-aggregate-same-5 c = search needs
 
-part-copy-or-list-line-end : tie.Need-part-copy-or-list-line-end
-part-copy-or-list-line-end c = search needs
+same-requires-5 : tie.Need-same-requires-5
+same-requires-5 c κs = search needs
 
-copy-or-list-line-requires : tie.Need-copy-or-list-line-requires
-copy-or-list-line-requires c κs = search needs
+made-line-requires-3 : tie.Need-made-line-requires-3
+made-line-requires-3 c κs = search needs
 
 returns-2 : tie.Need-returns-2
 returns-2 c = search needs
@@ -101,29 +86,24 @@ replay-line-spec =
     find-requires
     returns
     add-start
+    slice-aggregate-word
+    sub-fields
+    part-fields-start
+    part-fields-end
     slice-aggregate-same
-    slice-aggregate-same-2
     same-requires
-    sub-read-line
-    part-read-line-start
-    part-read-line-end
     read-line-requires
-    slice-aggregate-same-3
-    slice-aggregate-same-4
+    slice-aggregate-same-2
     same-requires-2
-    sub-write-line
-    part-write-line-start
-    part-write-line-end
     write-line-requires
-    slice-aggregate-same-5
-    slice-aggregate-same-6
+    slice-aggregate-same-3
     same-requires-3
-    slice-aggregate-same-7
-    slice-aggregate-same-8
+    made-line-requires
+    slice-aggregate-same-4
     same-requires-4
-    sub-copy-or-list-line
-    part-copy-or-list-line-start
-    part-copy-or-list-line-end
-    copy-or-list-line-requires
+    made-line-requires-2
+    slice-aggregate-same-5
+    same-requires-5
+    made-line-requires-3
     returns-2
     returns-3)

@@ -19,7 +19,9 @@ returns : tie.Need-returns
 returns c =
     let shown = c .before .before .before .before .card .ensures in
     let told = c .tell .ensures in
-    (told .0 ∙ ap answerNumber (shown .0), (shown .1, told .1 ∙ ap answerSecond (shown .0)))
+    let number = told .0 ∙ ap answerNumber (shown .0) in
+    let second = told .1 ∙ ap answerSecond (shown .0) in
+    (number, (shown .1, (second, record { answered = number; left = shown .1; told = second })))
 
 pub srci-card-spec : {M : Type 1} → statement M
 srci-card-spec = tie.close (tie.spec card-requires tell-requires same-length returns)

@@ -21,7 +21,7 @@ returns c =
     let told = c .tell .ensures in
     let number = told .0 ∙ ap answerNumber (copied .0) in
     let second = told .1 ∙ ap answerSecond (copied .0) in
-    (number, (copied .1, (second, record { answers = number; leaves = copied .1; tells = second })))
+    (number, (copied .1, (second, record { answered = number; left = copied .1; told = second })))
 
 pub srci-public-copy-spec : {M : Type 1} → statement M
 srci-public-copy-spec = tie.close (tie.spec public-copy-requires tell-requires same-length returns)

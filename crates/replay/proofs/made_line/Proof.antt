@@ -1,11 +1,11 @@
--- `replay::copy_or_list_line` is safe and ends: the space lies in the fields, and the decoded bytes in the buffer.
+-- `replay::made_line` is safe and ends: the space lies in the fields, and the decoded bytes in the buffer.
 -- Assumes nothing.
 use mathlib.Core.Path.{sym}
 use native.Mathlib.Omega.{arith}
 use lib.Seq.{length-take-le}
 use borrow.Author.Needs.{needs}
-use Rattle.replay.proofs.copy_or_list_line.Statement.{statement}
-use Rattle.replay.proofs.copy_or_list_line.Tie as tie
+use Rattle.replay.proofs.made_line.Statement.{statement}
+use Rattle.replay.proofs.made_line.Tie as tie
 
 find-requires : tie.Need-find-requires
 find-requires c κs = search needs
@@ -46,17 +46,17 @@ decode-requires c κs = search needs
 array-share-prefix-payload : tie.Need-array-share-prefix-payload
 array-share-prefix-payload c = search needs
 
-slice-aggregate-replay-copy-or-list : tie.Need-slice-aggregate-replay-copy-or-list
-slice-aggregate-replay-copy-or-list c = sym (length-take-le _ _ (omega arith))
+slice-aggregate-replay-made : tie.Need-slice-aggregate-replay-made
+slice-aggregate-replay-made c = sym (length-take-le _ _ (omega arith))
 
-replay-copy-or-list-requires : tie.Need-replay-copy-or-list-requires
-replay-copy-or-list-requires c κs = search needs
+replay-made-requires : tie.Need-replay-made-requires
+replay-made-requires c κs = search needs
 
 returns-3 : tie.Need-returns-3
 returns-3 c = search needs
 
-pub copy-or-list-line-spec : {M : Type 1} → statement M
-copy-or-list-line-spec =
+pub made-line-spec : {M : Type 1} → statement M
+made-line-spec =
     tie.close
     (tie.spec
     find-requires
@@ -72,6 +72,6 @@ copy-or-list-line-spec =
     slice-aggregate-decode
     decode-requires
     array-share-prefix-payload
-    slice-aggregate-replay-copy-or-list
-    replay-copy-or-list-requires
+    slice-aggregate-replay-made
+    replay-made-requires
     returns-3)

@@ -1,20 +1,20 @@
--- `replay::replay_copy_or_list` is safe and ends: the part of the output that is lent has the length that it is lent with.
+-- `replay::replay_made` is safe and ends: the part of the output that is lent has the length that it is lent with.
 -- Assumes nothing.
 use mathlib.Core.Path.{sym}
 use native.Mathlib.Omega.{arith}
 use lib.Seq.{length-take-le}
 use borrow.Author.Needs.{needs}
-use Rattle.replay.proofs.replay_copy_or_list.Statement.{statement}
-use Rattle.replay.proofs.replay_copy_or_list.Tie as tie
+use Rattle.replay.proofs.replay_made.Statement.{statement}
+use Rattle.replay.proofs.replay_made.Tie as tie
 
 array-borrow-prefix-output : tie.Need-array-borrow-prefix-output
 array-borrow-prefix-output c = search needs
 
-slice-aggregate-copy-or-list : tie.Need-slice-aggregate-copy-or-list
-slice-aggregate-copy-or-list c = sym (length-take-le _ _ (omega arith))
+slice-aggregate-make : tie.Need-slice-aggregate-make
+slice-aggregate-make c = sym (length-take-le _ _ (omega arith))
 
-copy-or-list-requires : tie.Need-copy-or-list-requires
-copy-or-list-requires c κs = search needs
+make-requires : tie.Need-make-requires
+make-requires c κs = search needs
 
 print-answer-requires : tie.Need-print-answer-requires
 print-answer-requires c κs = search needs
@@ -28,13 +28,13 @@ print-output-requires c κs = search needs
 returns : tie.Need-returns
 returns c = search needs
 
-pub replay-copy-or-list-spec : {M : Type 1} → statement M
-replay-copy-or-list-spec =
+pub replay-made-spec : {M : Type 1} → statement M
+replay-made-spec =
     tie.close
     (tie.spec
     array-borrow-prefix-output
-    slice-aggregate-copy-or-list
-    copy-or-list-requires
+    slice-aggregate-make
+    make-requires
     print-answer-requires
     stored-requires
     print-output-requires
