@@ -8,7 +8,7 @@ pub enum MaybeText {
     Refused(Refusal),
 }
 
-// The place after a section, an entry or a pair.
+// The place after an entry or a pair.
 pub enum MaybePlace {
     At(usize),
     Refused(Refusal),

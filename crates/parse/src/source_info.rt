@@ -4,25 +4,26 @@ ghost use Prim.Native.Nat.{_+_, _≤_};
 ghost use lib.ListN.{length};
 ghost use Rattle.format.specs.Encoding.{limit};
 ghost use Rattle.wire.specs.Number.{u16At};
+ghost use Rattle.layout.specs.Kinds.{sectionType};
 ghost use Rattle.format.specs.Parse.{body, sections, parse};
 ghost use Rattle.parse.specs.Outcome.{counted};
 use crate::arguments::parse_arguments;
 use crate::contents::parse_contents;
-use crate::framing::check_frame;
 use crate::names::parse_names;
 use crate::outcome::Counted;
-use crate::outcome::MaybePlace;
 use layout::PAYLOAD_LIMIT;
 use layout::Refusal;
 use layout::SourceInfoSectionType;
+use section_reader::MaybeSection;
 
-// The section of a size at a place, by its kind.
-fn parse_section(payload: &[u8], at: usize, size: usize) -> Counted
+// The section of a size at a place, by the kind that its header says.
+fn parse_section(payload: &[u8], kind: SourceInfoSectionType, at: usize, size: usize) -> Counted
     requires { ⌜ at + size ≤ length (now payload) ⌝ }
     requires { ⌜ length (now payload) ≤ limit ⌝ }
+    requires { ⌜ kind ≡ sectionType (u16At (now payload) (at + 6)) ⌝ }
     ensures { λ r. ⌜ r ≡ counted (body (u16At (now (payload .entry)) (at + 6)) (now (payload .entry)) at size) ⌝ }
 {
-    match SourceInfoSectionType::from_u16(wire::read_u16(payload, at + 6)) {
+    match kind {
         SourceInfoSectionType::SourceContents => parse_contents(payload, at, size),
         SourceInfoSectionType::SourceNames => parse_names(payload, at, size),
         SourceInfoSectionType::Arguments => parse_arguments(payload, at, size),
@@ -40,26 +41,31 @@ fn parse_sections(payload: &[u8], count: u16) -> Counted
     let mut rows: u32 = 0;
     let mut done: u16 = 0;
     while done < count {
-        match check_frame(payload, at) {
-            MaybePlace::Refused(refusal) => {
+        let taken = section_reader::next_section(payload, at);
+        let found = taken.section;
+        match found {
+            MaybeSection::Refused(refusal) => {
                 return Counted::Refused(refusal);
             }
-            MaybePlace::At(next) => match parse_section(payload, at, next - at) {
-                Counted::Refused(refusal) => {
-                    return Counted::Refused(refusal);
+            MaybeSection::Found(section) => {
+                let kind = section.kind;
+                match parse_section(payload, kind, section.at, section.size) {
+                    Counted::Refused(refusal) => {
+                        return Counted::Refused(refusal);
+                    }
+                    Counted::Rows(more) => {
+                        rows += more;
+                        at = taken.next;
+                    }
                 }
-                Counted::Rows(more) => {
-                    rows += more;
-                    at = next;
-                }
-            },
+            }
         }
         done += 1;
     }
-    if at == payload.len() {
-        Counted::Rows(rows)
-    } else {
+    if section_reader::bytes_left(payload, at) {
         Counted::Refused(Refusal::Leftover)
+    } else {
+        Counted::Rows(rows)
     }
 }
 

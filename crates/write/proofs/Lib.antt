@@ -1,3 +1,5 @@
+pub mod Lent
+pub mod Moving
 pub mod RowBytes
 pub mod RunLaws
 pub mod SectionLaws

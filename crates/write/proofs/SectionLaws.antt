@@ -38,43 +38,6 @@ module _ (payload edit : List ℕ) where
   begins-one (suc (suc (suc (suc zero)))) h r rows = refl
   begins-one (suc (suc (suc (suc (suc n))))) h r rows = absurd (omega arith)
 
-  pub unknown-kind : (r : Row) (rows : List Row) → kindOf (sectionFrom payload edit 4 r rows) ≡ r .a
-  unfolding kindOf sectionFrom
-  unknown-kind r rows = refl
-
-  -- packed contents and unknown sections have no entries
-  pub packed-alone : (r : Row) (rows : List Row) → sectionFrom payload edit 1 r [] ≡ sectionFrom payload edit 1 r rows
-  unfolding sectionFrom
-  packed-alone r rows = refl
-
-  pub unknown-alone : (r : Row) (rows : List Row) → sectionFrom payload edit 4 r [] ≡ sectionFrom payload edit 4 r rows
-  unfolding sectionFrom
-  unknown-alone r rows = refl
-
-  -- the section of the row at an index, where its tag is known
-  module _ (rows : List Row) (index t : ℕ) (r : Row) (e : r ≡ getD rows index noRow) (q : r .tag ≡ t) where
-    pub section-of-tag : sectionFrom payload edit t r (drop (index + 1) rows) ≡ sectionAt payload edit rows index
-    section-of-tag =
-        ap (λ (k : ℕ). sectionFrom payload edit k r (drop (index + 1) rows)) (sym q) ∙
-        ap (λ (x : Row). sectionFrom payload edit (x .tag) x (drop (index + 1) rows)) e
-
-    pub next-of-tag : index + 1 + entriesOf t (drop (index + 1) rows) ≡ nextSection rows index
-    next-of-tag =
-        ap (λ (k : ℕ). index + 1 + entriesOf k (drop (index + 1) rows)) (sym q) ∙
-        ap (λ (x : Row). index + 1 + entriesOf (x .tag) (drop (index + 1) rows)) e
-
-    -- what a writer of the section answers and stores is what the row at the index asks for
-    pub told-by-tag :
-        (start i a : ℕ) (before after : List ℕ) →
-        (let bytes : List ℕ = encodeSection (sectionFrom payload edit t r (drop (index + 1) rows)) in
-        let asked : List ℕ = encodeSection (sectionAt payload edit rows index) in
-        (i ≡ index + 1 + entriesOf t (drop (index + 1) rows)) × ((a ≡ start + length bytes) × (after ≡ sets before start bytes)) →
-        (i ≡ nextSection rows index) × ((a ≡ start + length asked) × (after ≡ sets before start asked)))
-    told-by-tag start i a before after (f, (g, h)) = (
-      f ∙ next-of-tag,
-      (g ∙ ap (λ (s : Section). start + length (encodeSection s)) section-of-tag, h ∙ ap (λ (s : Section). sets before start (encodeSection s)) section-of-tag),
-    )
-
   -- no rows, or a section's row first
   abbrev pub Begins : List Row → Type 0
   Begins [] = Unit {0}

@@ -6,11 +6,12 @@ use mathlib.Core.List.{List, [], _++_, flatMap}
 use mathlib.Core.Path.{_≡_, refl, sym, ap, _∙_}
 use native.Mathlib.Omega.{arith}
 use borrow.Author.Tests.{leb-true}
-use lib.ListN.{length}
+use lib.ListN.{length, getD, drop}
 use lib.Seq.{sets}
 use Rattle.wire.specs.Length.{wireSize}
 use Rattle.wire.specs.Padding.{aligned}
 use Rattle.wire.proofs.PaddingLaws.{le-aligned}
+use Rattle.layout.specs.Rows.{noRow}
 use Rattle.layout.specs.declared.row.Row.{Row}
 use Rattle.layout.proofs.Lists.{flatMap-least}
 use Rattle.format.specs.Encoding.{u16, u32, limit, nameEntry, storedBytes, bodyHeader, kindOf, encodeSection, entriesFit}
@@ -18,8 +19,10 @@ use Rattle.format.specs.Resolve.{leading, at, contentOf, nameOf, pairOf}
 use Rattle.format.specs.Sections.{Name, Section}
 use Rattle.format.proofs.Encoding.{length-contentEntry, length-nameEntry, length-pairEntry}
 use Rattle.format.proofs.SectionBytes.{start, filled, length-section}
+use Rattle.write.specs.declared.position.Position.{Position}
+use Rattle.write.specs.Position.{standing, sectionBytes, past}
 use Rattle.write.specs.Run.{rowBytes, runBytes}
-use Rattle.write.specs.Section.{sectionFrom, entryCount, sectionHeader, zerosAfter, contentsHeader}
+use Rattle.write.specs.Section.{sectionFrom, entryCount, entriesOf, sectionHeader, zerosAfter, contentsHeader, sectionAt}
 use Rattle.write.proofs.RunLaws.{run-contents, run-names, run-pairs, count-leading}
 use Rattle.write.proofs.SectionStored.{section-stored}
 
@@ -35,93 +38,118 @@ pub record Parts (s : Section) (first : ℕ) (bytes header : List ℕ) (kind : �
 module _
     {s : Section} {first : ℕ} {bytes header : List ℕ} {kind : ℕ}
     (parts : Parts s first bytes header kind)
-    (at end : ℕ)
+    (at : ℕ) {end : ℕ}
     (ends : end ≡ at + first + length bytes)
   where
     span : end ≡ at + filled s
     span = omega (arith, parts .starts, ap length (parts .stored))
 
-    pub section-size : aligned (end - at) ≡ length (encodeSection s)
+    section-size : aligned (end - at) ≡ length (encodeSection s)
     section-size =
         let size : end - at ≡ filled s = omega (arith, span) in
         ap aligned size ∙ sym (length-section s)
 
-    pub end-within : at + length (encodeSection s) ≤ limit → end ≤ limit
-    end-within within = omega (arith, section-size, le-aligned (end - at))
+    -- where the section ends within the limit, the stored bytes do too, and so does the frame
+    pub within : at + length (encodeSection s) ≤ limit → (end ≤ limit) × (at + aligned (end - at) ≤ limit)
+    within small = (omega (arith, section-size, le-aligned (end - at)), omega (arith, section-size))
 
-    pub parts-stored :
+    parts-stored :
         (l headed : List ℕ) {whole : List ℕ} →
         headed ≡ sets (sets l (at + first) bytes) (at + 8) header →
         whole ≡ sets (sets headed at (sectionHeader (aligned (end - at)) kind)) end (zerosAfter (end - at)) →
         whole ≡ sets l at (encodeSection s)
     parts-stored l headed e f = cc (parts .starts, parts .stored, parts .headed, parts .kinded, section-stored s l at end span)
 
--- bytes that are those that a section stores end where these end
-pub own-ends :
-    {s : Section} {first : ℕ} {bytes header : List ℕ} {kind : ℕ} →
-    Parts s first bytes header kind →
-    (at : ℕ) {own : List ℕ} →
-    own ≡ bytes →
-    at + first + length own ≡ at + first + length bytes
-own-ends {first = first} parts at e = ap (λ (l : List ℕ). at + first + length l) e
+-- ---- the parts of the section at an index, by its row's tag
 
--- ---- the parts of each kind
+module _ (payload edit : List ℕ) (all : List Row) (index : ℕ) where
+  abbrev row : Row
+  row = getD all index noRow
 
-module _ (payload edit : List ℕ) (row : Row) (rows : List Row) where
+  abbrev rest : List Row
+  rest = drop (index + 1) all
+
   abbrev run : ℕ → List ℕ
-  run tag = runBytes payload edit tag rows
+  run tag = runBytes payload edit tag rest
 
   abbrev size : ℕ → ℕ
   size tag = length (run tag)
 
   -- the bytes that the row itself names
-  abbrev own : List ℕ
+  abbrev pub own : List ℕ
   own = at payload edit row (row .b) (row .c)
 
-  pub plain-parts :
-      Parts (sectionFrom payload edit 0 row rows) 28 (run 5) (contentsHeader (row .a) 0 (size 5) (size 5) (entryCount 5 rows)) 0
+  abbrev pub Plain : Type 0
+  Plain = Parts (sectionAt payload edit all index) 28 (run 5) (contentsHeader (row .a) 0 (size 5) (size 5) (entryCount 5 rest)) 0
+
+  pub plain-parts : row .tag ≡ 0 → Plain
   unfolding sectionFrom storedBytes bodyHeader kindOf
-  plain-parts = record {
+  plain-parts q = rw q (record {
     starts = refl;
-    stored = sym (run-contents payload edit rows);
-    headed = rw (count-leading 5 (contentOf payload edit) rows);
+    stored = sym (run-contents payload edit rest);
+    headed = rw (count-leading 5 (contentOf payload edit) rest);
     kinded = refl;
-  }
+  })
 
-  pub packed-parts :
-      Parts (sectionFrom payload edit 1 row rows) 28 own (contentsHeader (row .a) 1 (length own) (row .e) (row .d)) 0
-  unfolding sectionFrom storedBytes bodyHeader kindOf
-  packed-parts = record { starts = refl; stored = refl; headed = refl; kinded = refl }
+  abbrev pub Packed : Type 0
+  Packed = Parts (sectionAt payload edit all index) 28 own (contentsHeader (row .a) 1 (length own) (row .e) (row .d)) 0
 
-  pub names-parts :
-      Parts (sectionFrom payload edit 2 row rows) 18 (run 6) (u32 0 ++ (u32 (entryCount 6 rows) ++ u16 (size 6))) 1
+  pub packed-parts : row .tag ≡ 1 → Packed
   unfolding sectionFrom storedBytes bodyHeader kindOf
-  names-parts = record {
+  packed-parts q = rw q (record { starts = refl; stored = refl; headed = refl; kinded = refl })
+
+  abbrev pub Names : Type 0
+  Names = Parts (sectionAt payload edit all index) 18 (run 6) (u32 0 ++ (u32 (entryCount 6 rest) ++ u16 (size 6))) 1
+
+  pub names-parts : row .tag ≡ 2 → Names
+  unfolding sectionFrom storedBytes bodyHeader kindOf
+  names-parts q = rw q (record {
     starts = refl;
-    stored = sym (run-names payload edit rows);
-    headed = rw (count-leading 6 (nameOf payload edit) rows);
+    stored = sym (run-names payload edit rest);
+    headed = rw (count-leading 6 (nameOf payload edit) rest);
     kinded = refl;
-  }
+  })
 
-  pub names-fit : entriesFit (sectionFrom payload edit 2 row rows) ≡ true → size 6 ≤ 65535
+  pub names-fit : row .tag ≡ 2 → entriesFit (sectionAt payload edit all index) ≡ true → size 6 ≤ 65535
   unfolding sectionFrom entriesFit
-  names-fit fit =
-      let ns : List Name = leading 6 (nameOf payload edit) rows in
-      omega (arith, leb-true (length (flatMap nameEntry ns)) 65535 fit, ap length (run-names payload edit rows))
+  names-fit q fit =
+      let ns : List Name = leading 6 (nameOf payload edit) rest in
+      omega (arith, leb-true (length (flatMap nameEntry ns)) 65535 (rw q at fit), ap length (run-names payload edit rest))
 
-  pub arguments-parts :
-      Parts (sectionFrom payload edit 3 row rows) 20 (run 7) (u32 0 ++ (u32 (size 7) ++ u32 (entryCount 7 rows))) 2
+  abbrev pub Arguments : Type 0
+  Arguments = Parts (sectionAt payload edit all index) 20 (run 7) (u32 0 ++ (u32 (size 7) ++ u32 (entryCount 7 rest))) 2
+
+  pub arguments-parts : row .tag ≡ 3 → Arguments
   unfolding sectionFrom storedBytes bodyHeader kindOf
-  arguments-parts = record {
+  arguments-parts q = rw q (record {
     starts = refl;
-    stored = sym (run-pairs payload edit rows);
-    headed = rw (count-leading 7 (pairOf payload edit) rows);
+    stored = sym (run-pairs payload edit rest);
+    headed = rw (count-leading 7 (pairOf payload edit) rest);
     kinded = refl;
-  }
+  })
 
-  pub unknown-parts : Parts (sectionFrom payload edit 4 row rows) 8 own [] (row .a)
+  abbrev pub Unknown : Type 0
+  Unknown = Parts (sectionAt payload edit all index) 8 own [] (row .a)
+
+  pub unknown-parts : row .tag ≡ 4 → Unknown
   unfolding sectionFrom storedBytes bodyHeader kindOf
-  unknown-parts = record { starts = refl; stored = refl; headed = refl; kinded = refl }
+  unknown-parts q = rw q (record { starts = refl; stored = refl; headed = refl; kinded = refl })
+
+-- what a writer of the section at a position answers and leaves, once its parts and its frame are stored
+pub told :
+    (payload edit : List ℕ) (all : List Row) (p : Position) {tag first kind end : ℕ} {bytes header : List ℕ} →
+    getD all (p .index) noRow .tag ≡ tag →
+    Parts (sectionAt payload edit all (p .index)) first bytes header kind →
+    end ≡ p .at + first + length bytes →
+    (l headed : List ℕ) {whole : List ℕ} {i a : ℕ} →
+    i ≡ p .index + 1 + entriesOf tag (drop (p .index + 1) all) →
+    headed ≡ sets (sets l (p .at + first) bytes) (p .at + 8) header →
+    (a ≡ p .at + aligned (end - p .at))
+    × (whole ≡ sets (sets headed (p .at) (sectionHeader (aligned (end - p .at)) kind)) end (zerosAfter (end - p .at))) →
+    (standing i a ≡ past payload edit all p) × (whole ≡ sets l (p .at) (sectionBytes payload edit all p))
+told payload edit all p q parts ends l headed onward fields (after, framed) =
+    let size = section-size parts (p .at) ends in
+    (rw (onward, after, size, q), parts-stored parts (p .at) ends l headed fields framed)
 
 -- ---- there are no more entries than bytes of them
 

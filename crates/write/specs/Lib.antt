@@ -1,3 +1,4 @@
 pub mod Entry
+pub mod Position
 pub mod Run
 pub mod Section

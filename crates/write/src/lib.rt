@@ -6,9 +6,11 @@
 // Proved: the answer and the output afterwards are those that crate format defines (specs/Write.antt), for
 // every payload, edit text, table and output. Nothing is assumed.
 mod entry;
+mod position;
 mod run;
 mod section;
 mod source_info;
+mod writers;
 
 ghost use mathlib.Core.Path.{_≡_};
 ghost use lib.ListN.{length};

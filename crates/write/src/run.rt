@@ -10,6 +10,7 @@ ghost use Rattle.write.specs.Section.{entryCount};
 use crate::entry::write_content;
 use crate::entry::write_name;
 use crate::entry::write_pair;
+use crate::position::Position;
 use layout::Row;
 use layout::text_of;
 use wire::TextLength;
@@ -41,13 +42,7 @@ pub fn write_row<'a>(
     write_pair(output, at, text, value)
 }
 
-// Where a run of rows ended: the index of the first row that is not of it, and the place after its bytes.
-pub struct Ended {
-    pub index: usize,
-    pub at: usize,
-}
-
-// Stores the entries that the rows of a tag are, from an index on, at a place and on.
+// Stores the entries that the rows of a tag are, from an index on, at a place and on. Answers the position after them.
 pub fn write_run<'a>(
     payload: &'a [u8],
     edit: &'a [u8],
@@ -56,7 +51,7 @@ pub fn write_run<'a>(
     first: usize,
     output: &mut [u8],
     start: usize,
-) -> Ended
+) -> Position
     requires { ⌜ first ≤ length (rowsOf (now rows)) ⌝ }
     requires { ⌜ start + length (runBytes (now payload) (now edit) tag (drop first (rowsOf (now rows)))) ≤ limit ⌝ }
     ensures { λ r. ⌜ r .index ≡ first + entryCount tag (drop first (rowsOf (now (rows .entry)))) ⌝ }
@@ -74,5 +69,5 @@ pub fn write_run<'a>(
         at = write_row(payload, edit, row, output, at);
         index += 1;
     }
-    Ended { index, at }
+    Position { index, at }
 }

@@ -1,15 +1,13 @@
-// Sections, stored at a place of the output. What a section stores goes first, since its headers count it.
-ghost use mathlib.Core.Bool.{true};
-ghost use mathlib.Core.List.{[]};
+// Sections, stored at a position, which is answered moved on past them. What a section stores goes first, since its headers count it.
 ghost use mathlib.Core.Path.{_≡_};
 ghost use Prim.Native.Nat.{_+_, _-_, _≤_};
-ghost use lib.ListN.{length, drop};
 ghost use lib.Seq.{sets};
 ghost use Rattle.wire.specs.Padding.{aligned};
 ghost use Rattle.layout.specs.Rows.{rowsOf};
-ghost use Rattle.format.specs.Encoding.{limit, encodeSection, entriesFit};
-ghost use Rattle.write.specs.Section.{sectionFrom, entryCount, sectionHeader, zerosAfter, contentsHeader};
-use crate::run::Ended;
+ghost use Rattle.format.specs.Encoding.{limit};
+ghost use Rattle.write.specs.Position.{Writable, past, sectionBytes};
+ghost use Rattle.write.specs.Section.{sectionHeader, zerosAfter, contentsHeader};
+use crate::position::Position;
 use crate::run::write_run;
 use layout::Row;
 use layout::SourceInfoSectionType;
@@ -53,23 +51,20 @@ fn write_contents_header(
     wire::write_u32(output, at + 16, count);
 }
 
-// Names, whose entries are the rows from an index on.
-pub fn write_names<'a>(
+// Names, whose entries are the rows after their own.
+pub fn store_names<'a>(
     payload: &'a [u8],
     edit: &'a [u8],
-    row: Row,
     rows: &[u32],
-    first: usize,
     output: &mut [u8],
-    start: usize,
-) -> Ended
-    requires { ⌜ first ≤ length (rowsOf (now rows)) ⌝ }
-    requires { ⌜ start + length (encodeSection (sectionFrom (now payload) (now edit) 2 row (drop first (rowsOf (now rows))))) ≤ limit ⌝ }
-    requires { ⌜ entriesFit (sectionFrom (now payload) (now edit) 2 row (drop first (rowsOf (now rows)))) ≡ true ⌝ }
-    ensures { λ r. ⌜ r .index ≡ first + entryCount 6 (drop first (rowsOf (now (rows .entry)))) ⌝ }
-    ensures { λ r. ⌜ r .at ≡ start + length (encodeSection (sectionFrom (now (payload .entry)) (now (edit .entry)) 2 row (drop first (rowsOf (now (rows .entry)))))) ⌝ }
-    ensures { λ _. ⌜ now (output .exit) ≡ sets (now (output .entry)) start (encodeSection (sectionFrom (now (payload .entry)) (now (edit .entry)) 2 row (drop first (rowsOf (now (rows .entry)))))) ⌝ }
+    position: Position,
+) -> Position
+    requires { ⌜ Writable (now payload) (now edit) (rowsOf (now rows)) 2 position ⌝ }
+    ensures { λ r. ⌜ r ≡ past (now (payload .entry)) (now (edit .entry)) (rowsOf (now (rows .entry))) position ⌝ }
+    ensures { λ _. ⌜ now (output .exit) ≡ sets (now (output .entry)) (position .at) (sectionBytes (now (payload .entry)) (now (edit .entry)) (rowsOf (now (rows .entry))) position) ⌝ }
 {
+    let start = position.at;
+    let first = position.index + 1;
     let entries = start + SourceInfoSectionType::NAMES_START;
     let run = write_run(payload, edit, rows, 6, first, output, entries);
     let end = run.at;
@@ -77,26 +72,24 @@ pub fn write_names<'a>(
     wire::write_u32(output, start + 8, 0);
     wire::write_u32(output, start + 12, (index - first) as u32);
     wire::write_u16(output, start + 16, (end - entries) as u16);
-    let next = write_frame(output, start, end, 1);
-    Ended { index, at: next }
+    let at = write_frame(output, start, end, 1);
+    Position { index, at }
 }
 
-// Arguments, whose pairs are the rows from an index on.
-pub fn write_arguments<'a>(
+// Arguments, whose pairs are the rows after their own.
+pub fn store_arguments<'a>(
     payload: &'a [u8],
     edit: &'a [u8],
-    row: Row,
     rows: &[u32],
-    first: usize,
     output: &mut [u8],
-    start: usize,
-) -> Ended
-    requires { ⌜ first ≤ length (rowsOf (now rows)) ⌝ }
-    requires { ⌜ start + length (encodeSection (sectionFrom (now payload) (now edit) 3 row (drop first (rowsOf (now rows))))) ≤ limit ⌝ }
-    ensures { λ r. ⌜ r .index ≡ first + entryCount 7 (drop first (rowsOf (now (rows .entry)))) ⌝ }
-    ensures { λ r. ⌜ r .at ≡ start + length (encodeSection (sectionFrom (now (payload .entry)) (now (edit .entry)) 3 row (drop first (rowsOf (now (rows .entry)))))) ⌝ }
-    ensures { λ _. ⌜ now (output .exit) ≡ sets (now (output .entry)) start (encodeSection (sectionFrom (now (payload .entry)) (now (edit .entry)) 3 row (drop first (rowsOf (now (rows .entry)))))) ⌝ }
+    position: Position,
+) -> Position
+    requires { ⌜ Writable (now payload) (now edit) (rowsOf (now rows)) 3 position ⌝ }
+    ensures { λ r. ⌜ r ≡ past (now (payload .entry)) (now (edit .entry)) (rowsOf (now (rows .entry))) position ⌝ }
+    ensures { λ _. ⌜ now (output .exit) ≡ sets (now (output .entry)) (position .at) (sectionBytes (now (payload .entry)) (now (edit .entry)) (rowsOf (now (rows .entry))) position) ⌝ }
 {
+    let start = position.at;
+    let first = position.index + 1;
     let pairs = start + SourceInfoSectionType::ARGS_START;
     let run = write_run(payload, edit, rows, 7, first, output, pairs);
     let end = run.at;
@@ -104,26 +97,25 @@ pub fn write_arguments<'a>(
     wire::write_u32(output, start + 8, 0);
     wire::write_u32(output, start + 12, (end - pairs) as u32);
     wire::write_u32(output, start + 16, (index - first) as u32);
-    let next = write_frame(output, start, end, 2);
-    Ended { index, at: next }
+    let at = write_frame(output, start, end, 2);
+    Position { index, at }
 }
 
-// Plain contents, whose entries are the rows from an index on.
-pub fn write_plain<'a>(
+// Plain contents, whose entries are the rows after their own.
+pub fn store_plain<'a>(
     payload: &'a [u8],
     edit: &'a [u8],
-    row: Row,
     rows: &[u32],
-    first: usize,
     output: &mut [u8],
-    start: usize,
-) -> Ended
-    requires { ⌜ first ≤ length (rowsOf (now rows)) ⌝ }
-    requires { ⌜ start + length (encodeSection (sectionFrom (now payload) (now edit) 0 row (drop first (rowsOf (now rows))))) ≤ limit ⌝ }
-    ensures { λ r. ⌜ r .index ≡ first + entryCount 5 (drop first (rowsOf (now (rows .entry)))) ⌝ }
-    ensures { λ r. ⌜ r .at ≡ start + length (encodeSection (sectionFrom (now (payload .entry)) (now (edit .entry)) 0 row (drop first (rowsOf (now (rows .entry)))))) ⌝ }
-    ensures { λ _. ⌜ now (output .exit) ≡ sets (now (output .entry)) start (encodeSection (sectionFrom (now (payload .entry)) (now (edit .entry)) 0 row (drop first (rowsOf (now (rows .entry)))))) ⌝ }
+    position: Position,
+) -> Position
+    requires { ⌜ Writable (now payload) (now edit) (rowsOf (now rows)) 0 position ⌝ }
+    ensures { λ r. ⌜ r ≡ past (now (payload .entry)) (now (edit .entry)) (rowsOf (now (rows .entry))) position ⌝ }
+    ensures { λ _. ⌜ now (output .exit) ≡ sets (now (output .entry)) (position .at) (sectionBytes (now (payload .entry)) (now (edit .entry)) (rowsOf (now (rows .entry))) position) ⌝ }
 {
+    let start = position.at;
+    let row = Row::load(rows, position.index);
+    let first = position.index + 1;
     let entries = start + SourceInfoSectionType::CONTENTS_START;
     let run = write_run(payload, edit, rows, 5, first, output, entries);
     let end = run.at;
@@ -138,22 +130,25 @@ pub fn write_plain<'a>(
         bytes,
         (index - first) as u32,
     );
-    let next = write_frame(output, start, end, 0);
-    Ended { index, at: next }
+    let at = write_frame(output, start, end, 0);
+    Position { index, at }
 }
 
-// Packed contents, whose stream is stored as it is. Answers the place after them.
-pub fn write_packed<'a>(
+// Packed contents, whose stream is stored as it is.
+pub fn store_packed<'a>(
     payload: &'a [u8],
     edit: &'a [u8],
-    row: Row,
+    rows: &[u32],
     output: &mut [u8],
-    start: usize,
-) -> usize
-    requires { ⌜ start + length (encodeSection (sectionFrom (now payload) (now edit) 1 row [])) ≤ limit ⌝ }
-    ensures { λ r. ⌜ r ≡ start + length (encodeSection (sectionFrom (now (payload .entry)) (now (edit .entry)) 1 row [])) ⌝ }
-    ensures { λ _. ⌜ now (output .exit) ≡ sets (now (output .entry)) start (encodeSection (sectionFrom (now (payload .entry)) (now (edit .entry)) 1 row [])) ⌝ }
+    position: Position,
+) -> Position
+    requires { ⌜ Writable (now payload) (now edit) (rowsOf (now rows)) 1 position ⌝ }
+    ensures { λ r. ⌜ r ≡ past (now (payload .entry)) (now (edit .entry)) (rowsOf (now (rows .entry))) position ⌝ }
+    ensures { λ _. ⌜ now (output .exit) ≡ sets (now (output .entry)) (position .at) (sectionBytes (now (payload .entry)) (now (edit .entry)) (rowsOf (now (rows .entry))) position) ⌝ }
 {
+    let start = position.at;
+    let row = Row::load(rows, position.index);
+    let index = position.index + 1;
     let stream = bytes_of(payload, edit, row.side, row.b, row.c);
     let stored = start + SourceInfoSectionType::CONTENTS_START;
     wire::write_bytes(output, stored, stream);
@@ -166,24 +161,28 @@ pub fn write_packed<'a>(
         row.e,
         row.d,
     );
-    write_frame(output, start, stored + stream.len(), 0)
+    let at = write_frame(output, start, stored + stream.len(), 0);
+    Position { index, at }
 }
 
-// A section of an unknown kind, whose bytes are stored as they are. Answers the place after it.
-pub fn write_unknown<'a>(
+// A section of an unknown kind, whose bytes are stored as they are.
+pub fn store_unknown<'a>(
     payload: &'a [u8],
     edit: &'a [u8],
-    row: Row,
+    rows: &[u32],
     output: &mut [u8],
-    start: usize,
-) -> usize
-    requires { ⌜ start + length (encodeSection (sectionFrom (now payload) (now edit) 4 row [])) ≤ limit ⌝ }
-    requires { ⌜ row .a ≤ 65535 ⌝ }
-    ensures { λ r. ⌜ r ≡ start + length (encodeSection (sectionFrom (now (payload .entry)) (now (edit .entry)) 4 row [])) ⌝ }
-    ensures { λ _. ⌜ now (output .exit) ≡ sets (now (output .entry)) start (encodeSection (sectionFrom (now (payload .entry)) (now (edit .entry)) 4 row [])) ⌝ }
+    position: Position,
+) -> Position
+    requires { ⌜ Writable (now payload) (now edit) (rowsOf (now rows)) 4 position ⌝ }
+    ensures { λ r. ⌜ r ≡ past (now (payload .entry)) (now (edit .entry)) (rowsOf (now (rows .entry))) position ⌝ }
+    ensures { λ _. ⌜ now (output .exit) ≡ sets (now (output .entry)) (position .at) (sectionBytes (now (payload .entry)) (now (edit .entry)) (rowsOf (now (rows .entry))) position) ⌝ }
 {
+    let start = position.at;
+    let row = Row::load(rows, position.index);
+    let index = position.index + 1;
     let bytes = bytes_of(payload, edit, row.side, row.b, row.c);
     let stored = start + SourceInfoSectionType::SECTION_HEADER_SIZE;
     wire::write_bytes(output, stored, bytes);
-    write_frame(output, start, stored + bytes.len(), row.a as u16)
+    let at = write_frame(output, start, stored + bytes.len(), row.a as u16);
+    Position { index, at }
 }

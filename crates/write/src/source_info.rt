@@ -2,58 +2,48 @@
 ghost use mathlib.Core.Bool.{true};
 ghost use mathlib.Core.List.{flatMap};
 ghost use mathlib.Core.Path.{_≡_};
-ghost use Prim.Native.Nat.{_+_, _≤_, _<_};
-ghost use lib.ListN.{length, getD};
+ghost use Prim.Native.Nat.{_<_};
+ghost use lib.ListN.{length};
 ghost use lib.Seq.{sets};
 ghost use Rattle.layout.specs.Checked.{isGood};
-ghost use Rattle.layout.specs.Rows.{rowsOf, noRow};
-ghost use Rattle.format.specs.Encoding.{limit, kindOf, encodeSection, encode, entriesFit};
+ghost use Rattle.layout.specs.Rows.{rowsOf};
+ghost use Rattle.format.specs.Encoding.{encodeSection, encode};
 ghost use Rattle.format.specs.Resolve.{sectionsOf};
 ghost use Rattle.format.specs.Write.{written};
-ghost use Rattle.write.specs.Section.{sectionAt, nextSection};
-use crate::run::Ended;
-use crate::section::write_arguments;
-use crate::section::write_names;
-use crate::section::write_packed;
-use crate::section::write_plain;
-use crate::section::write_unknown;
+ghost use Rattle.write.specs.Position.{standing, Writable, past, sectionBytes};
+use crate::position::Position;
+use crate::writers::write_arguments;
+use crate::writers::write_names;
+use crate::writers::write_packed;
+use crate::writers::write_plain;
+use crate::writers::write_unknown;
 use layout::Row;
 use layout::SourceInfoSectionType;
 
-// The section that the row at an index begins, with its entries. Answers the index and the place after it.
+// The section of a tag that the row at an index begins, with its entries. The position is made here, lent to the section's
+// writer, and answered where it came to stand.
 fn write_section<'a>(
     payload: &'a [u8],
     edit: &'a [u8],
     rows: &[u32],
+    tag: u32,
     index: usize,
     output: &mut [u8],
-    start: usize,
-) -> Ended
-    requires { ⌜ index < length (rowsOf (now rows)) ⌝ }
-    requires { ⌜ getD (rowsOf (now rows)) index noRow .tag < 5 ⌝ }
-    requires { ⌜ kindOf (sectionAt (now payload) (now edit) (rowsOf (now rows)) index) ≤ 65535 ⌝ }
-    requires { ⌜ entriesFit (sectionAt (now payload) (now edit) (rowsOf (now rows)) index) ≡ true ⌝ }
-    requires { ⌜ start + length (encodeSection (sectionAt (now payload) (now edit) (rowsOf (now rows)) index)) ≤ limit ⌝ }
-    ensures { λ r. ⌜ r .index ≡ nextSection (rowsOf (now (rows .entry))) index ⌝ }
-    ensures { λ r. ⌜ r .at ≡ start + length (encodeSection (sectionAt (now (payload .entry)) (now (edit .entry)) (rowsOf (now (rows .entry))) index)) ⌝ }
-    ensures { λ _. ⌜ now (output .exit) ≡ sets (now (output .entry)) start (encodeSection (sectionAt (now (payload .entry)) (now (edit .entry)) (rowsOf (now (rows .entry))) index)) ⌝ }
+    at: usize,
+) -> Position
+    requires { ⌜ (tag < 5) × Writable (now payload) (now edit) (rowsOf (now rows)) tag (standing index at) ⌝ }
+    ensures { λ r. ⌜ r ≡ past (now (payload .entry)) (now (edit .entry)) (rowsOf (now (rows .entry))) (standing index at) ⌝ }
+    ensures { λ _. ⌜ now (output .exit) ≡ sets (now (output .entry)) at (sectionBytes (now (payload .entry)) (now (edit .entry)) (rowsOf (now (rows .entry))) (standing index at)) ⌝ }
 {
-    let row = Row::load(rows, index);
-    let first = index + 1;
-    let tag = row.tag;
+    let mut position = Position { index, at };
     match tag {
-        0 => write_plain(payload, edit, row, rows, first, output, start),
-        1 => Ended {
-            index: first,
-            at: write_packed(payload, edit, row, output, start),
-        },
-        2 => write_names(payload, edit, row, rows, first, output, start),
-        3 => write_arguments(payload, edit, row, rows, first, output, start),
-        _ => Ended {
-            index: first,
-            at: write_unknown(payload, edit, row, output, start),
-        },
+        0 => write_plain(payload, edit, rows, output, &mut position),
+        1 => write_packed(payload, edit, rows, output, &mut position),
+        2 => write_names(payload, edit, rows, output, &mut position),
+        3 => write_arguments(payload, edit, rows, output, &mut position),
+        _ => write_unknown(payload, edit, rows, output, &mut position),
     }
+    position
 }
 
 // All sections, after the main header. Answers how many they are.
@@ -67,9 +57,10 @@ fn write_sections<'a>(payload: &'a [u8], edit: &'a [u8], rows: &[u32], output: &
     let mut index: usize = 0;
     let mut sections: u16 = 0;
     while index < count {
-        let ended = write_section(payload, edit, rows, index, output, at);
-        index = ended.index;
-        at = ended.at;
+        let row = Row::load(rows, index);
+        let position = write_section(payload, edit, rows, row.tag, index, output, at);
+        index = position.index;
+        at = position.at;
         sections += 1;
     }
     sections

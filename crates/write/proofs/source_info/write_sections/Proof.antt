@@ -1,7 +1,7 @@
 -- `source_info::write_sections` meets its contract. The loop's invariant: what is left to store, stored where it goes, makes the output what it
 -- is to be; its sections follow the rules and the limits.
 -- Assumes nothing.
-use Prim.Native.Nat.{_+_, _-_, _≤_, _<_}
+use Prim.Native.Nat.{ℕ, _+_, _-_, _≤_, _<_}
 use mathlib.Core.List.{List, [], flatMap}
 use mathlib.Core.Path.{_≡_, refl, sym, ap, _∙_}
 use native.Mathlib.Omega.{arith}
@@ -14,6 +14,7 @@ use Rattle.layout.proofs.Rows.{length-rowsOf}
 use Rattle.format.specs.Encoding.{encodeSection}
 use Rattle.format.specs.Resolve.{sectionsOf}
 use Rattle.format.specs.Sections.{Section}
+use Rattle.write.specs.declared.position.Position.{Position}
 use Rattle.write.specs.Section.{sectionAt}
 use Rattle.write.proofs.SectionLaws.{Left, Next, next-section, next-stored, all-left}
 use Rattle.write.proofs.source_info.write_sections.Statement.{statement}
@@ -38,55 +39,66 @@ loop-holds c =
     let (left, few, small) = all-left (s .args .payload .now) (s .args .edit .now) (rowsOf (s .args .rows .now)) (s .pre) in
     (left, omega arith, few, refl, refl)
 
--- the section that a turn stores
-turn : (c : tie.In-loop Inv-loop μ-loop) → (
-    let i = c .before in
-    let a = i .before .before .before .before .before .args in
-    Next (a .payload .now) (a .edit .now) (rowsOf (a .rows .now)) (i .loop .index) (i .loop .at))
-turn c =
-    let i = c .before in
-    let a = i .before .before .before .before .before .args in
-    let inside : i .loop .index < length (rowsOf (a .rows .now)) = omega (arith, c .loop-test .taken, length-rowsOf (a .rows .now)) in
-    next-section (a .payload .now) (a .edit .now) (rowsOf (a .rows .now)) (i .loop .index) (i .loop .at) inside (i .loop .inv .0)
+load-requires : tie.Need-load-requires Inv-loop μ-loop
+load-requires c κs = search needs
+
+-- what the loop goes over
+module _ (i : tie.At-loop Inv-loop μ-loop) where
+  abbrev s : tie.Start Inv-loop μ-loop
+  s = i .before .before .before .before .before
+
+  abbrev payload : List ℕ
+  payload = s .args .payload .now
+
+  abbrev edit : List ℕ
+  edit = s .args .edit .now
+
+  abbrev rows : List Row
+  rows = rowsOf (s .args .rows .now)
+
+module _ (c : tie.In-loop Inv-loop μ-loop) where
+  abbrev i : tie.At-loop Inv-loop μ-loop
+  i = c .before
+
+  inside : i .loop .index < length (rows i)
+  inside = omega (arith, c .loop-test .taken, length-rowsOf (s i .args .rows .now))
+
+  -- the section that a turn stores
+  turn : Next (payload i) (edit i) (rows i) (i .loop .index) (i .loop .at)
+  turn = next-section (payload i) (edit i) (rows i) (i .loop .index) (i .loop .at) inside (i .loop .inv .0)
 
 write-section-requires : tie.Need-write-section-requires Inv-loop μ-loop
 write-section-requires c κs =
-    let next = turn (c .before) in
-    let i = c .before .before in
-    let rows = i .before .before .before .before .before .args .rows .now in
-    let inside : i .loop .index < length (rowsOf rows) = omega (arith, c .before .loop-test .taken, length-rowsOf rows) in
-    (inside, (next .low, (next .kind, (next .fit, next .small))))
+    let t = c .before .before in
+    let next = turn t in
+    let tag = ap (λ (r : Row). r .tag) (c .before .load .ensures) in
+    (omega (arith, tag, next .low), (inside t, sym tag, next .kind, next .fit, next .small))
 
 add-sections : tie.Need-add-sections Inv-loop μ-loop
 add-sections c =
-    let t = c .before .before .before .before in
-    let i = t .before in
-    omega (arith, i .loop .inv .1, i .loop .inv .2, ap length (turn t .sections))
+    let t = c .before .before .before .before .before in
+    let inv = t .before .loop .inv in
+    omega (arith, inv .1, inv .2, ap length (turn t .sections))
 
 loop-less : tie.Need-loop-less Inv-loop μ-loop
 loop-less c =
-    let t = c .before .before .before .before in
-    let i = t .before in
-    let rows = i .before .before .before .before .before .args .rows .now in
-    let inside : i .loop .index < length (rowsOf rows) = omega (arith, t .loop-test .taken, length-rowsOf rows) in
-    omega (arith, c .before .before .write-section .ensures .0)
+    let t = c .before .before .before .before .before in
+    omega (arith, inside t, ap (λ (p : Position). p .index) (c .before .before .write-section .ensures .0))
 
 loop-again : tie.Need-loop-again Inv-loop μ-loop
 loop-again c =
     let told = c .before .before .write-section .ensures in
-    let t = c .before .before .before .before in
+    let t = c .before .before .before .before .before in
     let i = t .before in
-    let a = i .before .before .before .before .before .args in
+    let l = i .loop in
     let next = turn t in
-    let rows = rowsOf (a .rows .now) in
-    let inv = i .loop .inv in
-    let bytes = encodeSection (sectionAt (a .payload .now) (a .edit .now) rows (i .loop .index)) in
-    rw (told .0, told .1 .0, told .1 .1) (
+    let bytes = encodeSection (sectionAt (payload i) (edit i) (rows i) (l .index)) in
+    rw (told .0, told .1) (
       next .left,
-      omega (arith, inv .1, ap length (next .sections)),
-      inv .2,
-      next-stored (a .payload .now) (a .edit .now) rows (i .loop .index) (i .loop .at) next (i .loop .output) _ (inv .3),
-      length-sets (i .loop .output) (i .loop .at) bytes ∙ inv .4,
+      omega (arith, l .inv .1, ap length (next .sections)),
+      l .inv .2,
+      next-stored (payload i) (edit i) (rows i) (l .index) (l .at) next (l .output) _ (l .inv .3),
+      length-sets (l .output) (l .at) bytes ∙ l .inv .4,
     )
 
 same-length : tie.Need-same-length Inv-loop μ-loop
@@ -96,14 +108,12 @@ returns : tie.Need-returns Inv-loop μ-loop
 unfolding sectionsOf flatMap
 returns c =
     let i = c .before in
-    let a = i .before .before .before .before .before .args in
-    let rows = rowsOf (a .rows .now) in
-    let inv = i .loop .inv in
-    let ended : length rows ≤ i .loop .index = omega (arith, c .loop-test .left, length-rowsOf (a .rows .now)) in
-    let none : sectionsOf (a .payload .now) (a .edit .now) (drop (i .loop .index) rows) ≡ [] =
-    ap (λ (l : List Row). sectionsOf (a .payload .now) (a .edit .now) l) (drop-of-length-le rows {i = i .loop .index} ended) in (
-      omega (arith, inv .1, ap length none),
-      sym (ap (λ (l : List Section). sets (i .loop .output) (i .loop .at) (flatMap encodeSection l)) none) ∙ inv .3,
+    let l = i .loop in
+    let ended : length (rows i) ≤ l .index = omega (arith, c .loop-test .left, length-rowsOf (s i .args .rows .now)) in
+    let none : sectionsOf (payload i) (edit i) (drop (l .index) (rows i)) ≡ [] =
+    ap (λ (r : List Row). sectionsOf (payload i) (edit i) r) (drop-of-length-le (rows i) {i = l .index} ended) in (
+      omega (arith, l .inv .1, ap length none),
+      sym (ap (λ (ss : List Section). sets (l .output) (l .at) (flatMap encodeSection ss)) none) ∙ l .inv .3,
     )
 
 pub write-sections-spec : {M : Type 1} → statement M
@@ -113,6 +123,7 @@ write-sections-spec =
     Inv-loop
     μ-loop
     loop-holds
+    load-requires
     write-section-requires
     add-sections
     loop-less

@@ -1,0 +1,111 @@
+-- `write::section::store_packed` meets its contract: the stream, the body header and the frame are the parts of packed contents.
+-- Assumes nothing.
+use Prim.Native.Nat.{ℕ, _+_, _-_, _≤_}
+use mathlib.Core.List.{List}
+use mathlib.Core.Path.{_≡_, sym, ap}
+use native.Mathlib.Nat.{add-zero}
+use native.Mathlib.Omega.{arith}
+use borrow.Author.Needs.{needs}
+use lib.ListN.{length}
+use Rattle.wire.specs.Padding.{aligned}
+use Rattle.layout.specs.Rows.{rowsOf}
+use Rattle.layout.specs.declared.row.Row.{Row}
+use Rattle.layout.proofs.Rows.{length-rowsOf}
+use Rattle.format.specs.Encoding.{limit}
+use Rattle.write.specs.declared.position.Position.{Position}
+use Rattle.write.proofs.SectionParts.{own, Packed, packed-parts, within, told}
+use Rattle.write.proofs.section.store_packed.Statement.{statement}
+use Rattle.write.proofs.section.store_packed.Tie as tie
+
+-- the section, where its stream is known
+module _ (c : tie.After-bytes-of) where
+  abbrev s : tie.Start
+  s = c .before .before .before .before .before .before .before
+
+  abbrev payload : List ℕ
+  payload = s .args .payload .now
+
+  abbrev edit : List ℕ
+  edit = s .args .edit .now
+
+  abbrev rows : List Row
+  rows = rowsOf (s .args .rows .now)
+
+  abbrev p : Position
+  p = s .args .position
+
+  parts : Packed payload edit rows (p .index)
+  parts = packed-parts payload edit rows (p .index) (s .pre .1)
+
+  bytes : c .bytes-of .result .now ≡ own payload edit rows (p .index)
+  bytes = rw (c .before .before .load .ensures) at (c .bytes-of .ensures)
+
+  abbrev end : ℕ
+  end = p .at + 28 + length (c .bytes-of .result .now)
+
+  ends : end ≡ p .at + 28 + length (own payload edit rows (p .index))
+  ends = ap (λ (l : List ℕ). p .at + 28 + length l) bytes
+
+  small : (end ≤ limit) × (p .at + aligned (end - p .at) ≤ limit)
+  small = within parts (p .at) ends (s .pre .4)
+
+load-requires : tie.Need-load-requires
+load-requires c κs = search needs
+
+add-index : tie.Need-add-index
+add-index c = omega (arith, length-rowsOf (c .before .before .before .before .before .before .args .rows .now))
+
+bytes-of-requires : tie.Need-bytes-of-requires
+bytes-of-requires c κs = search needs
+
+add-stored : tie.Need-add-stored
+add-stored c = search needs
+
+write-bytes-requires : tie.Need-write-bytes-requires
+write-bytes-requires c κs = search needs
+
+add-write-contents-header : tie.Need-add-write-contents-header
+add-write-contents-header c = search needs
+
+cast-write-contents-header : tie.Need-cast-write-contents-header
+cast-write-contents-header c = omega (arith, small (c .before .before .before .before .before) .0)
+
+write-contents-header-requires : tie.Need-write-contents-header-requires
+write-contents-header-requires c κs = omega (arith, small (c .before .before .before .before .before) .0)
+
+add-write-frame : tie.Need-add-write-frame
+add-write-frame c = search needs
+
+write-frame-requires : tie.Need-write-frame-requires
+write-frame-requires c κs = (omega arith, small (c .before .before .before .before .before .before .before .before .before) .1)
+
+same-length : tie.Need-same-length
+same-length c = search needs
+
+returns : tie.Need-returns
+returns c =
+    let frame = c .before .before in
+    let header = frame .before .before .before .before in
+    let stored = header .before .before .before .before in
+    let b = stored .before .before in
+    told (payload b) (edit b) (rows b) (p b) (s b .pre .1) (parts b) (ends b) (s b .args .output .now) (header .write-contents-header .last .0)
+    (sym (add-zero _))
+    (cc (header .write-contents-header .ensures, stored .write-bytes .ensures, bytes b, b .before .before .load .ensures))
+    (frame .write-frame .ensures)
+
+pub store-packed-spec : {M : Type 1} → statement M
+store-packed-spec =
+    tie.close
+    (tie.spec
+    load-requires
+    add-index
+    bytes-of-requires
+    add-stored
+    write-bytes-requires
+    add-write-contents-header
+    cast-write-contents-header
+    write-contents-header-requires
+    add-write-frame
+    write-frame-requires
+    same-length
+    returns)
