@@ -2,4 +2,8 @@ pub mod Alternatives
 pub mod ClassTable
 pub mod Laws
 pub mod Octets
+pub mod Prefix
+pub mod RuleGrammar
+pub mod RuleLaws
+pub mod Runs
 pub mod Table

@@ -1,2 +1,3 @@
 pub mod Classes
 pub mod Rfc3629
+pub mod Rule

@@ -1,29 +1,27 @@
 // Runs of ASCII, which need no decoding: a byte below 0x80 is a character by itself.
 //
-// A run is passed over in blocks, and what is left of it byte by byte. The loop over a block does not
+// A run is passed over in blocks, large ones first, and what is left of it byte by byte. The loop over a block does not
 // branch on the text, so that it is compiled to a test of all its bytes at once, which costs no more
-// than that of one byte. The caller gives the size of the blocks as a constant: these functions are
-// compiled into each caller, for its size.
+// than that of one byte. The size of the blocks is a constant where they are asked for: these functions are compiled in there.
 ghost use mathlib.Core.Path.{_≡_};
 ghost use mathlib.Core.Bool.{false};
 ghost use Prim.Native.Nat.{ℕ, _+_, _≤_, _<_};
-ghost use lib.ListN.{length, getD, drop};
-ghost use Rattle.utf8.specs.Rfc3629.{octetsFrom};
+ghost use lib.ListN.{length, getD};
 
-// The end of the run of ASCII from place at on, by blocks of a size.
-pub fn run_end(text: &[u8], at: usize, size: usize) -> usize
-    requires { ⌜ (at ≤ length (now text)) × (0 < size) ⌝ }
+// The end of the run of ASCII from place at on.
+pub fn run_end(text: &[u8], at: usize) -> usize
+    requires { ⌜ at ≤ length (now text) ⌝ }
     ensures { λ r. ⌜ (at ≤ r) × (r ≤ length (now (text .entry))) ⌝ }
-    ensures { λ r. ⌜ octetsFrom 0 r (drop r (now (text .entry))) ≡ octetsFrom 0 at (drop at (now (text .entry))) ⌝ }
+    ensures { λ r. ⌜ ((k : ℕ) → k < r → at ≤ k → getD (now (text .entry)) k 0 < 0x80) ⌝ }
 {
-    passed(text, blocks_end(text, at, size))
+    passed(text, blocks_end(text, blocks_end(text, at, 64), 16))
 }
 
 // The place of the first byte from at on that is no ASCII, or the end of the text.
-fn passed(text: &[u8], at: usize) -> usize
+pub fn passed(text: &[u8], at: usize) -> usize
     requires { ⌜ at ≤ length (now text) ⌝ }
     ensures { λ r. ⌜ (at ≤ r) × (r ≤ length (now (text .entry))) ⌝ }
-    ensures { λ r. ⌜ octetsFrom 0 r (drop r (now (text .entry))) ≡ octetsFrom 0 at (drop at (now (text .entry))) ⌝ }
+    ensures { λ r. ⌜ ((k : ℕ) → k < r → at ≤ k → getD (now (text .entry)) k 0 < 0x80) ⌝ }
 {
     let mut i = at;
     while i < text.len() {
@@ -39,7 +37,7 @@ fn passed(text: &[u8], at: usize) -> usize
 fn blocks_end(text: &[u8], at: usize, size: usize) -> usize
     requires { ⌜ (at ≤ length (now text)) × (0 < size) ⌝ }
     ensures { λ r. ⌜ (at ≤ r) × (r ≤ length (now (text .entry))) ⌝ }
-    ensures { λ r. ⌜ octetsFrom 0 r (drop r (now (text .entry))) ≡ octetsFrom 0 at (drop at (now (text .entry))) ⌝ }
+    ensures { λ r. ⌜ ((k : ℕ) → k < r → at ≤ k → getD (now (text .entry)) k 0 < 0x80) ⌝ }
 {
     let mut i = at;
     while text.len() - i >= size {

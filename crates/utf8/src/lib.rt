@@ -5,6 +5,7 @@
 mod ascii;
 mod character;
 mod classes;
+mod rule;
 
 ghost use mathlib.Core.Path.{_≡_};
 ghost use Prim.Native.Nat.{_≤_};
@@ -19,15 +20,20 @@ pub enum Utf8 {
     IllFormed(usize),
 }
 
-// Most texts are short, and ASCII alone: the first run goes by small blocks.
+// A text is passed over as far as it is ASCII, and then by the local rule. What is left, of a text that is ill-formed or very
+// short, is read by the table.
 pub fn validate(text: &[u8]) -> Utf8
     ensures { λ r. ⌜ r ≡ utf8Of (now (text .entry)) ⌝ }
 {
-    let at = ascii::run_end(text, 0, 16);
+    let at = ascii::run_end(text, 0);
     if at == text.len() {
         return Utf8::WellFormed;
     }
-    read_with_table(text, at)
+    let from = rule::passed(text, at);
+    if from == text.len() {
+        return Utf8::WellFormed;
+    }
+    read_with_table(text, from)
 }
 
 // Reads on from a place, and lends the table of classes. A table is made at the start of the function
@@ -40,7 +46,7 @@ fn read_with_table(text: &[u8], from: usize) -> Utf8
 }
 
 // Reads on from a place: passes over a run of ASCII at a time, and over any other character by the class
-// of its first byte.
+// of its first byte. There is little to read here, since all but the last bytes before a fault were passed over in blocks.
 fn read_octets(text: &[u8], from: usize, table: &[u8; 256]) -> Utf8
     requires { ⌜ from ≤ length (now text) ⌝ }
     requires { ⌜ ClassTable (now table) ⌝ }
@@ -49,7 +55,7 @@ fn read_octets(text: &[u8], from: usize, table: &[u8; 256]) -> Utf8
     let mut at = from;
     while at < text.len() {
         if text[at] < 0x80 {
-            at = ascii::run_end(text, at + 1, 32);
+            at = ascii::passed(text, at + 1);
         } else {
             let count = character::length(text, at, table);
             if count == 0 {

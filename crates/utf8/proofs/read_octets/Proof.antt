@@ -8,6 +8,7 @@ use lib.ListN.{length, drop, length-drop}
 use Rattle.utf8.specs.Rfc3629.{octetsFrom}
 use Rattle.utf8.proofs.Alternatives.{char-length}
 use Rattle.utf8.proofs.Octets.{step, ill-formed, ended, ascii}
+use Rattle.utf8.proofs.Runs.{ascii-between}
 use Rattle.utf8.proofs.read_octets.Statement.{statement}
 use Rattle.utf8.proofs.read_octets.Tie as tie
 
@@ -23,11 +24,11 @@ loop-holds c = (omega arith, refl)
 shared-slice-read-if1 : tie.Need-shared-slice-read-if1 Inv-loop μ-loop
 shared-slice-read-if1 c = omega arith
 
-add-run-end : tie.Need-add-run-end Inv-loop μ-loop
-add-run-end c = omega arith
+add-passed : tie.Need-add-passed Inv-loop μ-loop
+add-passed c = omega arith
 
-run-end-requires : tie.Need-run-end-requires Inv-loop μ-loop
-run-end-requires c κs = omega arith
+passed-requires : tie.Need-passed-requires Inv-loop μ-loop
+passed-requires c κs = omega arith
 
 loop-less : tie.Need-loop-less Inv-loop μ-loop
 loop-less c = omega arith
@@ -36,7 +37,7 @@ loop-again : tie.Need-loop-again Inv-loop μ-loop
 loop-again c =
     let i = c .before .before .before .before in (
       omega arith,
-      c .run-end .ensures .1 ∙ ascii _ _ (omega arith) (c .before .if1 .taken) ∙ i .loop .inv .1,
+      ascii-between _ _ _ (omega arith) (omega arith) (c .passed .ensures .1) ∙ ascii _ _ (omega arith) (c .before .if1 .taken) ∙ i .loop .inv .1,
     )
 
 length-requires : tie.Need-length-requires Inv-loop μ-loop
@@ -78,8 +79,8 @@ read-octets-spec =
     μ-loop
     loop-holds
     shared-slice-read-if1
-    add-run-end
-    run-end-requires
+    add-passed
+    passed-requires
     loop-less
     loop-again
     length-requires

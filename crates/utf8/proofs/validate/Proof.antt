@@ -1,10 +1,12 @@
--- `utf8::validate` meets its contract: reading on from the end of a run of ASCII gives the answer for the whole text.
+-- `utf8::validate` meets its contract: a text of ASCII alone is well formed, and reading on from where the rule came to gives the answer for the whole text,
+-- which at the text's end is that it is well formed.
 -- Assumes nothing.
 use mathlib.Core.Path.{sym, _∙_}
 use native.Mathlib.Omega.{arith}
 use borrow.Author.Needs.{needs}
 use Rattle.utf8.specs.Rfc3629.{utf8Of}
 use Rattle.utf8.proofs.Octets.{ended}
+use Rattle.utf8.proofs.Runs.{ascii-between}
 use Rattle.utf8.proofs.validate.Statement.{statement}
 use Rattle.utf8.proofs.validate.Tie as tie
 
@@ -13,14 +15,27 @@ run-end-requires c κs = search needs
 
 returns : tie.Need-returns
 unfolding utf8Of
-returns c = sym (ended _ _ (omega arith)) ∙ c .before .run-end .ensures .1
+returns c = sym (ended _ _ (omega arith)) ∙ ascii-between _ 0 _ (omega arith) (omega arith) (c .before .run-end .ensures .1)
 
-read-with-table-requires : tie.Need-read-with-table-requires
-read-with-table-requires c κs = c .before .run-end .ensures .0 .1
+passed-requires : tie.Need-passed-requires
+passed-requires c κs = (omega arith, λ i h. c .before .run-end .ensures .1 i h (omega arith))
 
 returns-2 : tie.Need-returns-2
-unfolding utf8Of
-returns-2 c = c .read-with-table .ensures ∙ c .before .before .run-end .ensures .1
+returns-2 c = sym (ended _ _ (omega arith)) ∙ c .before .passed .ensures .1
+
+read-with-table-requires : tie.Need-read-with-table-requires
+read-with-table-requires c κs = search needs
+
+returns-3 : tie.Need-returns-3
+returns-3 c = c .read-with-table .ensures ∙ c .before .before .passed .ensures .1
 
 pub validate-spec : {M : Type 1} → statement M
-validate-spec = tie.close (tie.spec run-end-requires returns read-with-table-requires returns-2)
+validate-spec =
+    tie.close
+    (tie.spec
+    run-end-requires
+    returns
+    passed-requires
+    returns-2
+    read-with-table-requires
+    returns-3)

@@ -1,22 +1,21 @@
--- `utf8::ascii::blocks_end` meets its contract. The loop's invariant: the blocks that were passed are whole characters.
+-- `utf8::ascii::blocks_end` meets its contract. The loop's invariant: the bytes of the blocks that were passed are ASCII.
 -- Assumes nothing.
-use Prim.Native.Nat.{_≤_, _-_}
-use mathlib.Core.Path.{_≡_, refl, _∙_}
+use Prim.Native.Nat.{ℕ, _+_, _≤_, _<_, _-_}
+use mathlib.Core.Path.{_≡_}
 use native.Mathlib.Omega.{arith}
-use lib.ListN.{length, drop}
-use Rattle.utf8.specs.Rfc3629.{octetsFrom}
-use Rattle.utf8.proofs.Octets.{ascii-run}
+use lib.ListN.{length, getD}
+use Rattle.utf8.proofs.Runs.{below-block}
 use Rattle.utf8.proofs.ascii.blocks_end.Statement.{statement}
 use Rattle.utf8.proofs.ascii.blocks_end.Tie as tie
 
 abbrev Inv-loop : tie.InvT-loop
-Inv-loop text at size i₀ i = (at ≤ i) × (i ≤ length text) × (octetsFrom 0 i (drop i text) ≡ octetsFrom 0 at (drop at text))
+Inv-loop text at size i₀ i = (at ≤ i) × (i ≤ length text) × ((k : ℕ) → k < i → at ≤ k → getD text k 0 < 0x80)
 
 abbrev μ-loop : tie.MeasureT-loop
 μ-loop text at size i₀ i = length text - i
 
 loop-holds : tie.Need-loop-holds Inv-loop μ-loop
-loop-holds c = (omega arith, omega arith, refl)
+loop-holds c = (omega arith, omega arith, λ k h l. absurd (omega arith))
 
 sub-loop : tie.Need-sub-loop Inv-loop μ-loop
 sub-loop c = omega arith
@@ -37,8 +36,8 @@ loop-again : tie.Need-loop-again Inv-loop μ-loop
 loop-again c = (
   omega arith,
   omega arith,
-  ascii-run _ _ _ (omega arith) (c .before .has-other .ensures (c .if1 .left)) ∙
-      c .before .before .before .loop .inv .2,
+  (let i = c .before .before .before in
+      below-block (λ (k : ℕ). i .before .before .args .at ≤ k → getD (i .before .before .args .text .now) k 0 < 0x80) _ _ (i .loop .inv .2) (λ j h l. c .before .has-other .ensures (c .if1 .left) j h)),
 )
 
 returns-2 : tie.Need-returns-2 Inv-loop μ-loop

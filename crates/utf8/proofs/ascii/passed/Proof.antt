@@ -1,22 +1,20 @@
--- `utf8::ascii::passed` meets its contract. The loop's invariant: the bytes that were passed are whole characters.
+-- `utf8::ascii::passed` meets its contract. The loop's invariant: the bytes that were passed are ASCII.
 -- Assumes nothing.
-use Prim.Native.Nat.{_≤_, _-_}
-use mathlib.Core.Path.{_≡_, refl, _∙_}
+use Prim.Native.Nat.{ℕ, _≤_, _<_, _-_}
 use native.Mathlib.Omega.{arith}
-use lib.ListN.{length, drop}
-use Rattle.utf8.specs.Rfc3629.{octetsFrom}
-use Rattle.utf8.proofs.Octets.{ascii}
+use lib.ListN.{length, getD}
+use borrow.Author.Count.{below-more}
 use Rattle.utf8.proofs.ascii.passed.Statement.{statement}
 use Rattle.utf8.proofs.ascii.passed.Tie as tie
 
 abbrev Inv-loop : tie.InvT-loop
-Inv-loop text at i₀ i = (at ≤ i) × (i ≤ length text) × (octetsFrom 0 i (drop i text) ≡ octetsFrom 0 at (drop at text))
+Inv-loop text at i₀ i = (at ≤ i) × (i ≤ length text) × ((k : ℕ) → k < i → at ≤ k → getD text k 0 < 0x80)
 
 abbrev μ-loop : tie.MeasureT-loop
 μ-loop text at i₀ i = length text - i
 
 loop-holds : tie.Need-loop-holds Inv-loop μ-loop
-loop-holds c = (omega arith, omega arith, refl)
+loop-holds c = (omega arith, omega arith, λ k h l. absurd (omega arith))
 
 shared-slice-read-if1 : tie.Need-shared-slice-read-if1 Inv-loop μ-loop
 shared-slice-read-if1 c = omega arith
@@ -34,7 +32,8 @@ loop-again : tie.Need-loop-again Inv-loop μ-loop
 loop-again c = (
   omega arith,
   omega arith,
-  ascii _ _ (omega arith) (c .if1 .left) ∙ c .before .before .before .loop .inv .2,
+  (let i = c .before .before .before in
+      below-more (λ (k : ℕ). i .before .args .at ≤ k → getD (i .before .args .text .now) k 0 < 0x80) _ (i .loop .inv .2) (λ l. c .if1 .left)),
 )
 
 returns-2 : tie.Need-returns-2 Inv-loop μ-loop
