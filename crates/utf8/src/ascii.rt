@@ -2,7 +2,7 @@
 //
 // A run is passed over in blocks, large ones first, and what is left of it byte by byte. The loop over a block does not
 // branch on the text, so that it is compiled to a test of all its bytes at once, which costs no more
-// than that of one byte. The size of the blocks is a constant where they are asked for: these functions are compiled in there.
+// than that of one byte. The size of the blocks is a constant at each call, and the functions are inlined there.
 ghost use mathlib.Core.Path.{_≡_};
 ghost use mathlib.Core.Bool.{false};
 ghost use Prim.Native.Nat.{ℕ, _+_, _≤_, _<_};

@@ -14,10 +14,11 @@ const LARGE: usize = 64;
 
 const SMALL: usize = 16;
 
-// A shorter text is read by the table: so few characters are read as soon as a block is set up.
+// A shorter text is read by the table: a block is not worth setting up for so few characters.
 const SHORTEST: usize = 2 * SMALL;
 
-// Whether a byte is wrong after p3, p2, p1.
+// Whether a byte is wrong after p3, p2, p1. Only what this lets pass is promised to be right: where it finds fault, the
+// table decides, so that a needless fault would cost time and no answer.
 fn wrong(p3: u8, p2: u8, p1: u8, byte: u8) -> bool
     ensures { λ r. ⌜ (r ≡ false → right p3 p2 p1 byte ≡ true) ⌝ }
 {
@@ -61,7 +62,7 @@ fn blocks_end(text: &[u8], at: usize, size: usize) -> usize
 }
 
 // A place before which every byte is right, the end of a text that is right throughout. What is left of it after the last
-// whole block is looked at with the bytes before it, as one block.
+// whole block is looked at with the bytes before it, as one block. So 19: a small block, and the three bytes before it.
 fn right_end(text: &[u8], at: usize) -> usize
     requires { ⌜ (3 ≤ at) × (at ≤ length (now text)) × (19 ≤ length (now text)) ⌝ }
     requires { ⌜ ((i : ℕ) → i < at → rightAt (now text) i ≡ true) ⌝ }
