@@ -1,28 +1,6 @@
-//! Calls of the C entry points.
+//! Calls of the C entry points, as the Rust package declares them.
 
-#[link(name = "srci", kind = "static")]
-extern "C" {
-    // A slice passes as a pointer and a length in elements.
-    fn srci_read(
-        payload: *const u8,
-        payload_length: usize,
-        rows: *mut u32,
-        rows_length: usize,
-        second: *mut u32,
-    ) -> u32;
-
-    fn srci_write(
-        payload: *const u8,
-        payload_length: usize,
-        edit: *const u8,
-        edit_length: usize,
-        rows: *const u32,
-        rows_length: usize,
-        output: *mut u8,
-        output_length: usize,
-        second: *mut u32,
-    ) -> u32;
-}
+use srci::sys;
 
 pub struct Answer {
     pub number: u32,
@@ -33,7 +11,7 @@ pub fn read(payload: &[u8], rows: &mut [u32]) -> Answer {
     let mut second = UNTOUCHED;
     // SAFETY: each pointer and length is that of a slice, and srci_read has no `requires`.
     let number = unsafe {
-        srci_read(
+        sys::srci_read(
             payload.as_ptr(),
             payload.len(),
             rows.as_mut_ptr(),
@@ -48,7 +26,7 @@ pub fn write(payload: &[u8], edit: &[u8], rows: &[u32], output: &mut [u8]) -> An
     let mut second = UNTOUCHED;
     // SAFETY: each pointer and length is that of a slice, and srci_write has no `requires`.
     let number = unsafe {
-        srci_write(
+        sys::srci_write(
             payload.as_ptr(),
             payload.len(),
             edit.as_ptr(),
@@ -63,24 +41,14 @@ pub fn write(payload: &[u8], edit: &[u8], rows: &[u32], output: &mut [u8]) -> An
     Answer { number, second }
 }
 
-/// A job that takes a payload and an output, and its entry point.
+/// A job that takes a payload and an output, by its entry point.
 macro_rules! job {
     ($job:ident, $entry:ident) => {
-        extern "C" {
-            fn $entry(
-                payload: *const u8,
-                payload_length: usize,
-                output: *mut u8,
-                output_length: usize,
-                second: *mut u32,
-            ) -> u32;
-        }
-
         pub fn $job(payload: &[u8], output: &mut [u8]) -> Answer {
             let mut second = UNTOUCHED;
             // SAFETY: each pointer and length is that of a slice, and the entry point has no `requires`.
             let number = unsafe {
-                $entry(
+                sys::$entry(
                     payload.as_ptr(),
                     payload.len(),
                     output.as_mut_ptr(),

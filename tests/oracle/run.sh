@@ -32,5 +32,6 @@ if [ ! -f "$library/libsrci.a" ]; then
     echo "no target/staticlib/libsrci.a: run 'rt staticlib srci' first" >&2
     exit 2
 fi
-rust --crate-name oracle --extern "chunks=$build/libchunks.rlib" -L "native=$library" "$here/main.rs"
+rust --crate-type rlib --crate-name srci -L "native=$library" "$here/../../hosts/rust/src/lib.rs"
+rust --crate-name oracle --extern "chunks=$build/libchunks.rlib" --extern "srci=$build/libsrci.rlib" -L "native=$library" "$here/main.rs"
 exec "$build/oracle" "$@"

@@ -1,0 +1,33 @@
+//! `srci`: SRCI payloads at a terminal. The jobs are those of the proved library; here are the words around them.
+mod arguments;
+mod facts;
+mod failure;
+mod files;
+mod jobs;
+mod rows;
+mod text;
+
+use arguments::Asked;
+use failure::Failure;
+use std::env;
+use std::ffi::OsString;
+use std::process::ExitCode;
+
+fn main() -> ExitCode {
+    let words: Vec<OsString> = env::args_os().skip(1).collect();
+    match arguments::parse(&words).and_then(answer) {
+        Ok(()) => ExitCode::SUCCESS,
+        Err(failure) => {
+            failure.tell();
+            ExitCode::from(failure.status())
+        }
+    }
+}
+
+fn answer(asked: Asked) -> Result<(), Failure> {
+    match asked {
+        Asked::Sample => jobs::sample(),
+        Asked::Help(help) => files::print(|out| out.write_all(help.as_bytes())),
+        Asked::Command(call) => (call.run)(&call),
+    }
+}

@@ -1,0 +1,61 @@
+//! Texts of a payload as they are printed: every character shows, and each stays in its field.
+use std::fmt::{Display, Formatter, Result, Write};
+
+/// Characters that do not show, or that change how others show: controls, line separators, marks of direction, joiners
+/// and spaces without a width, tags.
+fn is_unseen(c: char) -> bool {
+    c.is_control()
+        || matches!(c,
+            '\u{ad}'
+            | '\u{61c}'
+            | '\u{200b}'..='\u{200f}'
+            | '\u{2028}'..='\u{202e}'
+            | '\u{2060}'..='\u{206f}'
+            | '\u{feff}'
+            | '\u{e0000}'..='\u{e007f}')
+}
+
+/// A text as a field of a tab-parted line.
+pub struct Field<'a>(pub Option<&'a [u8]>);
+
+impl Display for Field<'_> {
+    fn fmt(&self, f: &mut Formatter) -> Result {
+        let text = String::from_utf8_lossy(self.0.unwrap_or_default());
+        for part in text.split_inclusive(|c| c == '\\' || is_unseen(c)) {
+            let mut shown = part.chars();
+            match shown.next_back() {
+                Some('\\') => write!(f, "{}\\\\", shown.as_str())?,
+                Some('\t') => write!(f, "{}\\t", shown.as_str())?,
+                Some('\n') => write!(f, "{}\\n", shown.as_str())?,
+                Some('\r') => write!(f, "{}\\r", shown.as_str())?,
+                Some(c) if is_unseen(c) => write!(f, "{}\\u{{{:x}}}", shown.as_str(), c as u32)?,
+                _ => f.write_str(part)?,
+            }
+        }
+        Ok(())
+    }
+}
+
+/// A text as a JSON string.
+pub struct Json<'a>(pub &'a [u8]);
+
+impl Display for Json<'_> {
+    fn fmt(&self, f: &mut Formatter) -> Result {
+        let text = String::from_utf8_lossy(self.0);
+        f.write_char('"')?;
+        for part in text.split_inclusive(|c| c == '\\' || c == '"' || is_unseen(c)) {
+            let mut shown = part.chars();
+            match shown.next_back() {
+                Some(c @ ('\\' | '"')) => write!(f, "{}\\{c}", shown.as_str())?,
+                Some(c) if is_unseen(c) => {
+                    f.write_str(shown.as_str())?;
+                    for unit in c.encode_utf16(&mut [0; 2]) {
+                        write!(f, "\\u{unit:04x}")?;
+                    }
+                }
+                _ => f.write_str(part)?,
+            }
+        }
+        f.write_char('"')
+    }
+}
