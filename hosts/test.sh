@@ -34,6 +34,9 @@ fi
 gcc -std=c99 $strict hosts/tests/replay.c "$out/lib/libsrci.a" -o "$out/tests/replay_c"
 "$out/tests/replay_c" < "$calls" | cmp - "$answers"
 echo "ok: $(wc -l < "$calls") stored calls"
+gcc -std=c99 $strict hosts/tests/rows.c "$out/lib/libsrci.a" -o "$out/tests/rows"
+"$out/tests/rows" < crates/show_card/stdin
+echo "ok: rows by their names"
 gcc -std=c99 $strict hosts/c/show_card.c "$out/lib/libsrci.a" -o "$out/tests/show_card"
 "$out/tests/show_card" crates/show_card/stdin | cmp - crates/show_card/stdout
 echo "ok: the example"
