@@ -6,7 +6,7 @@
 # It needs what build.sh needs, and python3. Where g++ or cargo is missing it says so, and goes on without.
 set -euo pipefail
 cd "$(dirname "$0")/.."
-out=target/hosts
+out=build
 calls=crates/replay/data/calls.txt
 answers=crates/replay/stdout
 export PYTHONPATH=$out/python:tests/programs PYTHONDONTWRITEBYTECODE=1
@@ -15,7 +15,7 @@ title() { echo "== $*"; }
 rust() { rustc --edition 2021 -O -D warnings -L "native=$out/lib" --extern "srci=$out/rust/libsrci.rlib" "$@"; }
 
 title "build"
-hosts/build.sh
+hosts/build.sh -D warnings
 mkdir -p "$out/tests"
 
 title "declarations"

@@ -1,6 +1,6 @@
 /* Prints the card of the payload in a file.
  *
- *   cc -Ihosts/c hosts/c/show_card.c target/hosts/lib/libsrci.a -o show_card && ./show_card FILE
+ *   cc -Ihosts/c hosts/c/show_card.c build/lib/libsrci.a -o show_card && ./show_card FILE
  */
 #include <stdio.h>
 #include <stdlib.h>

@@ -40,8 +40,8 @@ tabs: the section's place from 0; the fact, which is 'plain contents', 'packed c
 or 'arguments' for a section, and 'name' or 'pair' for what is in it; the section's count; the name
 of a file or of an argument; the argument's value. A field that does not apply is empty.
 
-With --json an array of the sections: {\"section\": .., \"count\": ..}, with \"names\" of names and
-\"pairs\" of arguments, each a {\"name\": .., \"value\": ..}.
+With --json an array of the sections, each {\"section\": .., \"count\": ..}. A section of names has an
+array \"names\" of texts besides, and one of arguments an array \"pairs\" of {\"name\": .., \"value\": ..}.
 ",
     },
     Command {
@@ -68,7 +68,8 @@ side, its numbers A to E, its text, and a pair's value. By what the row is calle
   name             A start, B length, C content size
   pair             A, B start and length of its name, C, D of its value
 
-With --json an array of the rows, whose fields have the header line's names in lower case.
+With --json an array of the rows, whose fields have the header line's names in lower case; a row
+without a text, or without a value, has no such field.
 ",
     },
     Command {
@@ -98,13 +99,14 @@ With --json an array of the rows, whose fields have the header line's names in l
 ];
 
 const OUT: &str = "\
-OUT is written under another name beside its place and then renamed, so that it never holds a part
-of what is written. A file that is there already is replaced only with --force.
+OUT is written under another name beside its place and then put there whole. A file that is there
+already is replaced only with --force; without it, the exit status is 3.
 ";
 
 const TEXTS: &str = "\
-In texts a tab, a new line, a carriage return and a backslash are \\t, \\n, \\r and \\\\; other
-characters that do not show, or that change how others show, are \\u{HEX}.
+In a field a tab, a new line, a carriage return and a backslash are \\t, \\n, \\r and \\\\; other
+characters that do not show, or that change how others show, are \\u{HEX}. JSON escapes the same
+characters in its own way.
 ";
 
 const GENERAL: &str = "\

@@ -1,7 +1,7 @@
 //! Why the command did not do what it was asked, and its exit status.
 use srci::Refusal;
 use std::ffi::OsString;
-use std::io;
+use std::io::{self, Write};
 
 pub enum Failure {
     /// What was refused, and why.
@@ -23,15 +23,20 @@ impl Failure {
         }
     }
 
-    /// Says it on standard error.
+    /// Says it on standard error. Where that cannot be written the exit status tells enough.
     pub fn tell(&self) {
-        match self {
-            Failure::Refused(what, refusal) => eprintln!("srci: {what}: refused {refusal}"),
-            Failure::NoSuchName(what, name) => eprintln!("srci: {what}: no file is named {name:?}"),
-            Failure::Usage(what, usage) => eprintln!("srci: {what}\n{usage}"),
+        let mut out = io::stderr();
+        let _ = match self {
+            Failure::Refused(what, refusal) => writeln!(out, "srci: {what}: refused {refusal}"),
+            Failure::NoSuchName(what, name) => {
+                writeln!(out, "srci: {what}: no file is named {name:?}")
+            }
+            Failure::Usage(what, usage) => writeln!(out, "srci: {what}\n{usage}"),
             // whoever reads what is printed has seen enough, as `head` has
-            Failure::File(_, _, error) if error.kind() == io::ErrorKind::BrokenPipe => {}
-            Failure::File(doing, what, error) => eprintln!("srci: cannot {doing} {what}: {error}"),
-        }
+            Failure::File(_, _, error) if error.kind() == io::ErrorKind::BrokenPipe => Ok(()),
+            Failure::File(doing, what, error) => {
+                writeln!(out, "srci: cannot {doing} {what}: {error}")
+            }
+        };
     }
 }

@@ -1,18 +1,28 @@
-//! Texts of a payload as they are printed: every character shows, and each stays in its field.
+//! Texts of a payload as they are printed: each stays in its field and on its line, and none draws over others.
 use std::fmt::{Display, Formatter, Result, Write};
 
-/// Characters that do not show, or that change how others show: controls, line separators, marks of direction, joiners
-/// and spaces without a width, tags.
+/// Characters that do not show, or that change how others show: controls, separators of lines, annotations, and what
+/// Unicode lists as Default_Ignorable_Code_Point, marks of direction and variation selectors among them.
 fn is_unseen(c: char) -> bool {
     c.is_control()
         || matches!(c,
             '\u{ad}'
+            | '\u{34f}'
             | '\u{61c}'
+            | '\u{115f}'..='\u{1160}'
+            | '\u{17b4}'..='\u{17b5}'
+            | '\u{180b}'..='\u{180f}'
             | '\u{200b}'..='\u{200f}'
             | '\u{2028}'..='\u{202e}'
             | '\u{2060}'..='\u{206f}'
+            | '\u{3164}'
+            | '\u{fe00}'..='\u{fe0f}'
             | '\u{feff}'
-            | '\u{e0000}'..='\u{e007f}')
+            | '\u{ffa0}'
+            | '\u{fff0}'..='\u{fffb}'
+            | '\u{1bca0}'..='\u{1bca3}'
+            | '\u{1d173}'..='\u{1d17a}'
+            | '\u{e0000}'..='\u{e0fff}')
 }
 
 /// A text as a field of a tab-parted line.

@@ -1,12 +1,22 @@
 //! Tells Cargo where libsrci.a is: in the folder that SRCI_LIBRARY names, or where hosts/build.sh puts it.
 use std::env;
-use std::path::Path;
+use std::fs;
+use std::path::{Path, PathBuf};
 
 fn main() {
-    let manifest = env::var("CARGO_MANIFEST_DIR").unwrap();
-    let built = Path::new(&manifest).join("../../target/hosts/lib");
-    let folder = env::var("SRCI_LIBRARY").unwrap_or(built.display().to_string());
+    let built = || Path::new(&env::var("CARGO_MANIFEST_DIR").unwrap()).join("../../build/lib");
+    let folder = env::var("SRCI_LIBRARY").map_or_else(|_| built(), PathBuf::from);
+    let archive = folder.join("libsrci.a");
     println!("cargo:rerun-if-env-changed=SRCI_LIBRARY");
-    println!("cargo:rerun-if-changed={folder}/libsrci.a");
-    println!("cargo:rustc-link-search=native={folder}");
+    println!("cargo:rerun-if-changed={}", archive.display());
+    match fs::canonicalize(&archive) {
+        Ok(found) => {
+            let folder = found.parent().unwrap();
+            println!("cargo:rustc-link-search=native={}", folder.display());
+        }
+        Err(_) => panic!(
+            "there is no {}: hosts/build.sh builds it",
+            archive.display()
+        ),
+    }
 }

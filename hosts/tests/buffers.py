@@ -1,12 +1,16 @@
 """The Python package on buffers of every kind, and on payloads at the limit."""
 import mmap
 import pickle
+import sys
 import tempfile
+import threading
+import time
 import tracemalloc
 from array import array
 
 import srci
 from sections import arguments, card, contents, listing, names, packed, payload, unknown
+from srci import _calls
 
 PARTS = [packed(b"closed", 2), unknown(7, b"abcd"), names((b"sky.hlsl", 5)), arguments((b"E", b"main"))]
 PAYLOAD = payload(*PARTS)
@@ -58,6 +62,43 @@ def test_a_lent_bytearray_can_be_resized_afterwards():
     assert raises(srci.Refused, srci.card, buffer).number == 2
 
 
+def test_an_interrupted_call_gives_its_buffer_back():
+    def interrupted(*given):
+        get_buffer(*given)
+        raise KeyboardInterrupt
+
+    buffer = bytearray(PAYLOAD)
+    get_buffer, _calls._get_buffer = _calls._get_buffer, interrupted
+    try:
+        raises(KeyboardInterrupt, srci.card, buffer)
+    finally:
+        _calls._get_buffer = get_buffer
+    buffer += b"more"
+
+
+def test_a_call_keeps_pythons_lock():
+    pairs = payload(arguments(*[(b"", b"")] * 5_000_000))
+    turns = 0
+
+    def count():
+        nonlocal turns
+        while turns is not None:
+            turns += 1
+            time.sleep(0.0001)
+
+    interval = sys.getswitchinterval()
+    thread = threading.Thread(target=count, daemon=True)
+    thread.start()
+    sys.setswitchinterval(1000)  # no thread takes the lock from another that does not give it
+    before = turns
+    srci.card(pairs)
+    after = turns
+    sys.setswitchinterval(interval)
+    turns = None
+    thread.join()
+    assert before == after > 0
+
+
 def test_refused():
     refused = raises(srci.Refused, srci.read, PAYLOAD[:-1])
     assert (refused.number, refused.name, refused.second) == (2, "ragged", 0)
@@ -78,6 +119,9 @@ def test_rows():
     assert renamed[3].text(PAYLOAD, b"a new") == "new"
     assert renamed[3].text(PAYLOAD, b"a ne") is None
     assert raises(srci.Refused, srci.write, PAYLOAD, b"a ne", renamed).number == 17
+    for row in (srci.Row(6, 2, 0, 1), srci.Row(6, 0, -2, 1), srci.Row(6, 0, 1, -1), srci.Row(6, 0, len(PAYLOAD), 1)):
+        assert row.text(PAYLOAD, PAYLOAD) is None
+    raises(UnicodeDecodeError, srci.Row(6, 1, 0, 1).text, b"", b"\xff")
     raises(TypeError, srci.write, b"", b"", [(2, 0)])
     raises(OverflowError, srci.write, b"", b"", [(2**32, 0, 0, 0, 0, 0, 0)])
 

@@ -48,8 +48,30 @@ def fails(status, said, *words, **options):
     assert b"panicked" not in err
 
 
+# What the sentence of each refusal must say, by the specification's table.
+MEANINGS = {
+    1: "more than 26,214,400 bytes",
+    2: "fewer than 8 bytes, or a length that is no multiple of 4",
+    3: "main header",
+    4: "A section's size is missing, under 8, no multiple of 4, or past the end",
+    5: "Flags of a section, of its body or of an entry are set",
+    6: "header of a section's body or of an entry does not fit",
+    7: "section's size is not what",
+    8: "padding byte is not zero",
+    9: "text has size 0, its aligned size is wrong, or it runs past",
+    10: "NUL that ends a text is missing",
+    11: "not UTF-8 as RFC 3629",
+    12: "NUL inside",
+    13: "left after the last section or entry",
+    14: "neither 0 (plain) nor 1 (packed)",
+    15: "uncompressed size that is not that of their stored bytes",
+    18: "over 65,535 sections",
+}
+
+
 def is_refused(number, *words, **options):
     fails(1, f": refused {number}, {REFUSALS[number - 1]}: ", *words, **options)
+    fails(1, MEANINGS[number], *words, **options)
 
 
 def stored_calls(job):
@@ -85,7 +107,6 @@ def test_refused_payloads(folder):
         is_refused(number, "public-copy", file, out)
         is_refused(number, "rename", file, "a", "b", out)
     is_refused(2, "check", "-")
-    fails(1, "no multiple of 4", "check", "-")
     assert os.listdir(folder) == ["payload"]
 
 
@@ -127,6 +148,24 @@ def test_facts(folder):
     assert not {"\x1b", "\x7f", "\x85", "\u202e", "\u200b", "\U000e0041", "\u2028"} & set(out.decode())
     prints("section\tfact\tcount\tname\tvalue\n", "facts", "-", data=payload())
     prints("[\n]\n", "facts", "-", "--json", data=payload(unknown(3)))
+
+
+def test_characters_that_do_not_show(folder):
+    # controls, separators of lines, annotations, and Unicode's Default_Ignorable_Code_Point
+    ranges = """1-1f 7f-9f ad 34f 61c 115f-1160 17b4-17b5 180b-180f 200b-200f 2028-2029 202a-202e 2060-206f 3164
+        fe00-fe0f feff ffa0 fff0-fff8 fff9-fffb 1bca0-1bca3 1d173-1d17a e0000-e0fff"""
+    ends = [[int(end, 16) for end in ends.split("-")] for ends in ranges.split()]
+    unseen = {c for end in ends for c in range(end[0], end[-1] + 1)}
+    beside = {c for end in ends for c in (end[0] - 1, end[-1] + 1)} - unseen - {0}
+    written = {ord("\t"): "\\t", ord("\n"): "\\n", ord("\r"): "\\r", ord("\\"): "\\\\"}
+    characters = sorted(unseen | beside | {ord("\\"), ord('"'), ord("é"), 0x1F600})
+    data = payload(arguments(*[(chr(c).encode(), b"") for c in characters]))
+    out, _, _ = run("facts", "-", data=data)
+    shown = [written.get(c, f"\\u{{{c:x}}}" if c in unseen else chr(c)) for c in characters]
+    assert [line.split("\t")[3] for line in out.decode().split("\n")[2:-1]] == shown
+    out, _, _ = run("facts", "--json", "-", data=data)
+    assert [pair["name"] for pair in json.loads(out)[0]["pairs"]] == [chr(c) for c in characters]
+    assert not {chr(c) for c in unseen - {ord("\n")}} & set(out.decode())
 
 
 def test_rows(folder):
@@ -269,8 +308,11 @@ def test_an_output_that_exists(folder):
     for words in (["public-copy", file], ["rename", file, "a", "b"]):
         fails(3, "--force", *words, out)
         assert out.read_bytes() == b"old"
+    if os.geteuid() == 0:
+        os.chown(out, NOBODY, NOBODY)
+    owner = out.stat().st_uid
     prints("", "public-copy", file, out, "--force")
-    assert out.read_bytes() == copy and stat.S_IMODE(out.stat().st_mode) == 0o640
+    assert out.read_bytes() == copy and stat.S_IMODE(out.stat().st_mode) == 0o640 and out.stat().st_uid == owner
     link = folder / "link"
     link.symlink_to("out")
     out.write_bytes(b"old")
@@ -279,7 +321,9 @@ def test_an_output_that_exists(folder):
     assert link.is_symlink() and out.read_bytes() == copy
     nowhere = folder / "nowhere"
     nowhere.symlink_to("none")
-    fails(3, "--force", "public-copy", file, nowhere)
+    for force in ([], ["--force"]):
+        fails(3, "a link to nothing", "public-copy", file, nowhere, *force)
+    assert nowhere.is_symlink()
     pipe = folder / "pipe"
     os.mkfifo(pipe)
     for special in (pipe, folder, "/dev/null"):
@@ -288,6 +332,28 @@ def test_an_output_that_exists(folder):
     fails(3, "cannot write", "public-copy", file, folder / "none" / "out")
     fails(3, "cannot write", "public-copy", file, "")
     assert sorted(os.listdir(folder)) == ["link", "nowhere", "out", "payload", "pipe"]
+
+
+def test_calls_at_once(folder):
+    # one that looks first and renames then would at times replace another's file: in one round of 30 or so
+    file, out = folder / "payload", folder / "out"
+    file.write_bytes(SAMPLE)
+    for _ in range(30):
+        calls = [subprocess.Popen([SRCI, "public-copy", file, out], stderr=subprocess.DEVNULL) for _ in range(40)]
+        assert sorted(call.wait() for call in calls) == [0] + [3] * 39
+        assert sorted(os.listdir(folder)) == ["out", "payload"]
+        out.unlink()
+
+
+def test_streams_that_cannot_be_used(folder):
+    file = folder / "payload"
+    file.write_bytes(SAMPLE)
+    with open("/dev/full", "wb") as full:
+        for status, words in [(1, ["check", "/dev/null"]), (2, ["card"]), (3, ["card", folder])]:
+            assert run(*words, stderr=full)[2] == status
+    with open("/dev/null", "rb") as read_only, open(folder / "out", "wb") as write_only:
+        fails(3, "cannot write standard output", "card", file, stdout=read_only)
+        fails(3, "cannot read standard input", "card", "-", stdin=write_only)
 
 
 def test_a_read_only_folder(folder):
@@ -308,6 +374,12 @@ def large(folder):
     return folder / "payload", payload(pairs)
 
 
+def limit_files():
+    """From here on the signal SIGXFSZ comes when a file would pass 100,000 bytes, and no core is left."""
+    resource.setrlimit(resource.RLIMIT_FSIZE, (100_000, 100_000))
+    resource.setrlimit(resource.RLIMIT_CORE, (0, 0))
+
+
 def test_a_full_disk(folder):
     file, _ = large(folder)
     with open("/dev/full", "wb") as full:
@@ -315,13 +387,12 @@ def test_a_full_disk(folder):
         fails(3, "cannot write standard output: No space left", "rows", file, stdout=full)
         fails(3, "cannot write standard output: No space left", "public-copy", file, "-", stdout=full)
         fails(3, "cannot write standard output: No space left", "--help", stdout=full)
-    # a file may not grow past some length, as on a disk that fills up in the middle
-    limited = {"preexec_fn": lambda: resource.setrlimit(resource.RLIMIT_FSIZE, (100_000, 100_000))}
+    # Python has the signal ignored: so the write fails in the middle, as on a disk that fills up
     for old in (None, b"old"):
         out = folder / "out"
         if old:
             out.write_bytes(old)
-        fails(3, "cannot write", "public-copy", file, out, "--force", restore_signals=False, **limited)
+        fails(3, "cannot write", "public-copy", file, out, "--force", restore_signals=False, preexec_fn=limit_files)
         assert sorted(os.listdir(folder)) == (["out", "payload"] if old else ["payload"])
     assert out.read_bytes() == b"old"
 
@@ -330,9 +401,8 @@ def test_an_interrupted_write(folder):
     file, copy = large(folder)
     out = folder / "out"
     out.write_bytes(b"old")
-    # killed by the signal for a file that grows too long, in the middle of the write
-    limited = {"preexec_fn": lambda: resource.setrlimit(resource.RLIMIT_FSIZE, (100_000, 100_000))}
-    _, _, status = run("public-copy", file, out, "--force", **limited)
+    # the signal kills the command in the middle of the write
+    _, _, status = run("public-copy", file, out, "--force", preexec_fn=limit_files)
     assert status == -signal.SIGXFSZ and out.read_bytes() == b"old"
     left = [name for name in os.listdir(folder) if name not in ("out", "payload")]
     assert len(left) == 1 and left[0].startswith(".srci-")

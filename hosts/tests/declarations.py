@@ -82,15 +82,17 @@ assert all(getattr(_calls, f"_{name}").restype is ctypes.c_uint32 for name in en
 symbols = subprocess.run(["nm", "--defined-only", "--extern-only", ARCHIVE], capture_output=True, text=True, check=True)
 same("in the archive", sorted(re.findall(r" T (\w+)", symbols.stdout)), sorted(entries))
 
+symbols = subprocess.run(["nm", "--undefined-only", ARCHIVE], capture_output=True, text=True, check=True)
+same("what the archive needs", sorted(re.findall(r" U (\w+)", symbols.stdout)), ["memcpy", "memset"])
+
 source = text("crates/layout/src/refusal.rt")
 refusals = {snake(name): int(number) for name, number in re.findall(r"Refusal::(\w+)(?:\(_\))? => (\d+),", source)}
 assert sorted(refusals.values()) == list(range(1, 20))
 same("refusals in C", enumerators(header, "srci_refusal"), refusals)
 source = text("hosts/rust/src/refusal.rs")
-found = re.findall(r"Refusal::(\w+)(?:\(_\))? => (\d+),", source)
-same("refusals in Rust", {snake(name): int(number) for name, number in found}, refusals)
-found = re.findall(r'"(.*)",', re.search(r"NAMES: \[&str; 19\] = \[(.*?)\];", source, re.S)[1])
-same("names of refusals in Rust", found, list(srci.REFUSALS))
+found = re.findall(r"\(Refusal::(\w+)(?:\(0\))?, \"(.*?)\", \"", source)
+same("refusals in Rust", {snake(variant): number for number, (variant, _) in enumerate(found, 1)}, refusals)
+same("names of refusals in Rust", [name for _, name in found], list(srci.REFUSALS))
 found = {constant(name): number for number, name in enumerate(srci.REFUSALS, 1)}
 same("refusals in Python", found, refusals)
 
@@ -100,3 +102,10 @@ source = text("hosts/rust/src/row.rs")
 found = re.findall(r"Row::([A-Z_]+) => \"", source)
 numbers = {name: int(number) for name, number in re.findall(r"pub const (\w+): u32 = (\d);", source)}
 same("tags in Rust", {f"TAG_{name}": numbers[name] for name in found}, tags)
+
+limits = [
+    re.search(r"#define SRCI_LIMIT (\d+)", header)[1],
+    re.search(r"LIMIT: usize = ([\d_]+)", text("hosts/rust/src/lib.rs"))[1].replace("_", ""),
+    str(srci.LIMIT),
+]
+same("the limit in C, Rust and Python", limits, ["26214400"] * 3)

@@ -1,18 +1,23 @@
-"""Runs the examples of README.md in Python, C and Rust, each of which shows the card of a stored payload.
+"""Runs the examples of README.md in Python, C and Rust, each of which shows the card of a stored payload, and compares
+what README.md and hosts/README.md say is printed.
 
     readme.py FOLDER
 
 FOLDER is what hosts/build.sh built. An example of Python is run as it stands; around the others stand the lines that
 every program has.
 """
+import os
 import pathlib
 import re
 import subprocess
 import sys
 import textwrap
 
+import srci
+
 ROOT = pathlib.Path(__file__).resolve().parents[2]
 BUILT = pathlib.Path(sys.argv[1]).resolve()
+PAYLOAD = ROOT / "crates/show_card/stdin"
 CARD = (ROOT / "crates/show_card/stdout").read_text()
 
 C = """\
@@ -34,11 +39,14 @@ fn main() -> Result<(), Box<dyn std::error::Error>> {
 """
 
 
+def examples(path, language):
+    return re.findall(rf"```{language}\n(.*?)```", (ROOT / path).read_text(), re.S)
+
+
 def example(language):
-    """The one example in a language."""
-    found = re.findall(rf"```{language}\n(.*?)```", (ROOT / "README.md").read_text(), re.S)
-    assert len(found) == 1, f"{len(found)} examples in {language}"
-    return found[0]
+    """The one example of README.md in a language."""
+    [found] = examples("README.md", language)
+    return found
 
 
 def indented(lines):
@@ -54,8 +62,10 @@ def built(name, text, compiler, *words):
 
 
 def expect_card(language, *words):
-    with open(ROOT / "crates/show_card/stdin", "rb") as payload:
-        done = subprocess.run(words, stdin=payload, stdout=subprocess.PIPE, cwd=ROOT, check=True)
+    # an example finds by itself what it uses
+    alone = {name: value for name, value in os.environ.items() if name != "PYTHONPATH"}
+    with open(PAYLOAD, "rb") as payload:
+        done = subprocess.run(words, stdin=payload, stdout=subprocess.PIPE, cwd=ROOT, env=alone, check=True)
     assert done.stdout.decode() == CARD, f"{language}: {done.stdout!r}"
     print(f"ok: the example in {language}")
 
@@ -71,3 +81,23 @@ library = BUILT / "rust/libsrci.rlib"
 link = ["--extern", f"srci={library}", "-L", f"native={BUILT}/lib"]
 program = built("readme_rust.rs", RUST % indented(example("rust")), ["rustc", "--edition", "2021"], *link)
 expect_card("Rust", program)
+
+assert indented(CARD) in (ROOT / "README.md").read_text()
+print("ok: the card in README.md")
+
+facts = subprocess.run([BUILT / "bin/srci", "facts", PAYLOAD], capture_output=True, text=True, check=True).stdout
+shown = [" ".join(line.split()) for line in (ROOT / "hosts/README.md").read_text().splitlines()]
+first = shown.index("section fact count name value")
+facts = [" ".join(line.split()) for line in facts.splitlines()]
+assert shown[first : first + len(facts)] == facts, f"{facts}, not {shown[first:]}"
+print("ok: the facts in hosts/README.md")
+
+names, refused = examples("hosts/README.md", "python")
+said = {"srci": srci, "payload": PAYLOAD.read_bytes()}
+exec(names, said)
+exec(refused, said)
+assert (said["names"], said["card"]) == (["sky.hlsl", "light.hlsli"], CARD)
+said["payload"] = b""
+exec(refused, said)
+assert said["card"] == "no card: ragged"
+print("ok: the examples in hosts/README.md")

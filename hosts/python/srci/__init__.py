@@ -13,8 +13,10 @@ The five jobs are done by libsrci, whose every function is proved: whatever byte
 inside its buffers, and answers what its definition gives. This package finds the sizes that a job needs, and puts names
 to the numbers. It is tested, and not itself proved.
 
-A payload is bytes, a memoryview, or any other object with a buffer of contiguous bytes. It is not copied. A call keeps
-Python's lock, so that no other thread of Python changes it in the meantime; nothing else may change it either.
+A payload is bytes, a memoryview, or any other object with a buffer of contiguous bytes. It is not copied, and must not
+change during a call: a job stores by what it has checked before. A call keeps Python's lock, and so keeps out other
+threads that run Python code; it does not keep out those that fill a buffer without the lock, as readinto and recv_into
+do, nor another process, nor anything in a Python without that lock. Lend bytes, or a buffer that is filled.
 """
 from array import array
 from collections.abc import Sequence
@@ -120,7 +122,10 @@ class Row(NamedTuple):
     e: int = 0
 
     def text(self, payload, edit=b""):
-        """The text of a content, of a name, or of a pair's name; None for other rows, and outside its side."""
+        """The text of a content, of a name, or of a pair's name; None for other rows, and outside its side.
+
+        It is UTF-8 in an accepted payload; of a row made by hand it may not be, which raises UnicodeDecodeError.
+        """
         if self.tag in (Tag.CONTENT, Tag.NAME, Tag.PAIR):
             return _decoded(self._part(payload, edit, self.a, self.b))
         return None
@@ -141,7 +146,8 @@ class Row(NamedTuple):
         if self.side not in (Side.PAYLOAD, Side.EDIT):
             return None
         side = memoryview(edit if self.side else payload).cast("B")
-        return side[start : start + length] if start + length <= len(side) else None
+        is_inside = 0 <= start <= start + length <= len(side)
+        return side[start : start + length] if is_inside else None
 
 
 _WIDTH = len(Row._fields)

@@ -10,9 +10,9 @@ import pathlib
 
 _PATH = pathlib.Path(__file__).with_name("libsrci.so")
 if not _PATH.exists():
-    raise ImportError(f"{_PATH} is not there: hosts/build.sh builds the package, with it, in target/hosts/python")
+    raise ImportError(f"{_PATH} is not there: hosts/build.sh builds the package, with it, in build/python")
 
-# PyDLL keeps Python's lock during a call, so that no other thread changes a bytearray that is lent.
+# PyDLL keeps Python's lock during a call, so that no other thread's Python code changes a bytearray that is lent.
 _LIBRARY = ctypes.PyDLL(str(_PATH))
 
 # A slice passes as a pointer and a length in elements.
@@ -67,11 +67,12 @@ _NOTHING = ctypes.c_uint32()
 def _lent(owner, flags, size):
     """The place of an object's bytes, and how many elements of a size they are; they stay there until it is left."""
     view = _Buffer()
-    _get_buffer(owner, ctypes.byref(view), flags)
+    place = ctypes.byref(view)
     try:
+        _get_buffer(owner, place, flags)
         yield view.buf or ctypes.addressof(_NOTHING), view.len // size
     finally:
-        _release_buffer(ctypes.byref(view))
+        _release_buffer(place)  # does nothing to a view that was not got
 
 
 def _bytes(owner):

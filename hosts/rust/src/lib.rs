@@ -35,7 +35,8 @@ pub use row::{Row, Rows};
 /// Bytes of the longest payload.
 pub const LIMIT: usize = 26_214_400;
 
-/// Reads a payload into its rows.
+/// Reads a payload into its rows. A payload has at most half as many rows as it has bytes, and a row takes 28 bytes: 367
+/// MB for the longest payload of empty pairs.
 ///
 /// ```
 /// let nothing = [8, 0, 0, 0, 0, 0, 0, 0];

@@ -1,8 +1,9 @@
 //! Why a call is refused.
 use std::error::Error;
 use std::fmt::{Display, Formatter, Result};
+use std::mem::discriminant;
 
-/// Why a call is refused, in the order of the numbers, from 1.
+/// Why a call is refused. [`Refusal::meaning`] says what each means.
 #[derive(Clone, Copy, Debug, PartialEq, Eq)]
 pub enum Refusal {
     Oversize,
@@ -28,85 +29,47 @@ pub enum Refusal {
     NoRoom(u32),
 }
 
-/// By their numbers, from 1.
-const NAMES: [&str; 19] = [
-    "oversize",
-    "ragged",
-    "main header",
-    "frame",
-    "flag",
-    "short",
-    "body size",
-    "padding",
-    "entry size",
-    "open text",
-    "not UTF-8",
-    "inner NUL",
-    "leftover",
-    "compression",
-    "unequal",
-    "no rows",
-    "bad row",
-    "won't fit",
-    "no room",
-];
-
-/// By their numbers, from 1.
-const MEANINGS: [&str; 19] = [
-    "The payload has more than 26,214,400 bytes.",
-    "The payload has fewer than 8 bytes, or a length that is no multiple of 4.",
-    "The main header tells another length than the payload's, or its flags are set.",
-    "A section's size is missing, under 8, no multiple of 4, or past the end of the payload.",
-    "Flags of a section, of its body or of an entry are set.",
-    "The header of a section's body or of an entry does not fit.",
-    "A section's size is not what its headers and stored bytes make it.",
-    "A padding byte is not zero.",
-    "An entry's text has size 0, its aligned size is wrong, or it runs past its section's bytes.",
-    "The NUL that ends a text is missing.",
-    "A text is not UTF-8 as RFC 3629 defines it.",
-    "A text has a NUL inside.",
-    "Bytes are left after the last section or entry that is counted.",
-    "The compression of contents is neither 0 (plain) nor 1 (packed).",
-    "Plain contents tell an uncompressed size that is not that of their stored bytes.",
-    "The table of rows is too short.",
-    "A row breaks a rule of rows.",
-    "There would be over 65,535 sections, 65,535 bytes of names in one, or 26,214,400 bytes.",
-    "The output is too short.",
+/// Each with its name and what it means, by the numbers from 1.
+const REFUSALS: [(Refusal, &str, &str); 19] = [
+    (Refusal::Oversize, "oversize", "The payload has more than 26,214,400 bytes."),
+    (Refusal::Ragged, "ragged", "The payload has fewer than 8 bytes, or a length that is no multiple of 4."),
+    (Refusal::MainHeader, "main header", "The main header tells another length than the payload's, or its flags are set."),
+    (Refusal::Frame, "frame", "A section's size is missing, under 8, no multiple of 4, or past the end of the payload."),
+    (Refusal::Flag, "flag", "Flags of a section, of its body or of an entry are set."),
+    (Refusal::Short, "short", "The header of a section's body or of an entry does not fit."),
+    (Refusal::BodySize, "body size", "A section's size is not what its headers and stored bytes make it."),
+    (Refusal::Padding, "padding", "A padding byte is not zero."),
+    (Refusal::EntrySize, "entry size", "An entry's text has size 0, its aligned size is wrong, or it runs past its section's bytes."),
+    (Refusal::OpenText, "open text", "The NUL that ends a text is missing."),
+    (Refusal::NotUtf8, "not UTF-8", "A text is not UTF-8 as RFC 3629 defines it."),
+    (Refusal::InnerNul, "inner NUL", "A text has a NUL inside."),
+    (Refusal::Leftover, "leftover", "Bytes are left after the last section or entry that is counted."),
+    (Refusal::Compression, "compression", "The compression of contents is neither 0 (plain) nor 1 (packed)."),
+    (Refusal::Unequal, "unequal", "Plain contents tell an uncompressed size that is not that of their stored bytes."),
+    (Refusal::NoRows(0), "no rows", "The table of rows is too short."),
+    (Refusal::BadRow, "bad row", "A row breaks a rule of rows."),
+    (Refusal::WontFit, "won't fit", "There would be over 65,535 sections, 65,535 bytes of names in one, or 26,214,400 bytes."),
+    (Refusal::NoRoom(0), "no room", "The output is too short."),
 ];
 
 impl Refusal {
     /// Its number, from 1 to 19.
     pub fn number(self) -> u32 {
-        match self {
-            Refusal::Oversize => 1,
-            Refusal::Ragged => 2,
-            Refusal::MainHeader => 3,
-            Refusal::Frame => 4,
-            Refusal::Flag => 5,
-            Refusal::Short => 6,
-            Refusal::BodySize => 7,
-            Refusal::Padding => 8,
-            Refusal::EntrySize => 9,
-            Refusal::OpenText => 10,
-            Refusal::NotUtf8 => 11,
-            Refusal::InnerNul => 12,
-            Refusal::Leftover => 13,
-            Refusal::Compression => 14,
-            Refusal::Unequal => 15,
-            Refusal::NoRows(_) => 16,
-            Refusal::BadRow => 17,
-            Refusal::WontFit => 18,
-            Refusal::NoRoom(_) => 19,
-        }
+        let is_this = |(refusal, _, _): &_| discriminant(refusal) == discriminant(&self);
+        1 + REFUSALS.iter().take_while(|said| !is_this(said)).count() as u32
     }
 
     pub fn name(self) -> &'static str {
-        NAMES[self.number() as usize - 1]
+        self.said().1
     }
 
     /// What it means: a sentence.
     pub fn meaning(self) -> &'static str {
-        MEANINGS[self.number() as usize - 1]
+        self.said().2
+    }
+
+    fn said(self) -> (Refusal, &'static str, &'static str) {
+        REFUSALS[self.number() as usize - 1]
     }
 
     /// The rows or bytes that are needed, where these were lacking, else 0.
@@ -117,29 +80,12 @@ impl Refusal {
         }
     }
 
+    /// The refusal of a number, which the entry points are proved to answer from 1 to 19 only.
     pub(crate) fn from_numbers(number: u32, second: u32) -> Refusal {
-        match number {
-            1 => Refusal::Oversize,
-            2 => Refusal::Ragged,
-            3 => Refusal::MainHeader,
-            4 => Refusal::Frame,
-            5 => Refusal::Flag,
-            6 => Refusal::Short,
-            7 => Refusal::BodySize,
-            8 => Refusal::Padding,
-            9 => Refusal::EntrySize,
-            10 => Refusal::OpenText,
-            11 => Refusal::NotUtf8,
-            12 => Refusal::InnerNul,
-            13 => Refusal::Leftover,
-            14 => Refusal::Compression,
-            15 => Refusal::Unequal,
-            16 => Refusal::NoRows(second),
-            17 => Refusal::BadRow,
-            18 => Refusal::WontFit,
-            19 => Refusal::NoRoom(second),
-            // the entry points are proved to answer none of these
-            _ => unreachable!("no refusal has the number {number}"),
+        match REFUSALS[number as usize - 1].0 {
+            Refusal::NoRows(_) => Refusal::NoRows(second),
+            Refusal::NoRoom(_) => Refusal::NoRoom(second),
+            refusal => refusal,
         }
     }
 }

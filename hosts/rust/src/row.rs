@@ -13,6 +13,22 @@
 /// | 7 | pair | `a`, `b` start and length of its name; `c`, `d` of its value |
 ///
 /// Numbers that have no name are 0. A length leaves the terminator out.
+///
+/// ```
+/// use srci::Row;
+/// let pair = Row { tag: Row::PAIR, side: Row::EDIT, a: 0, b: 1, c: 2, d: 4, ..Row::default() };
+/// assert_eq!(pair.text(b"payload", b"E=main"), Some(&b"E"[..]));
+/// assert_eq!(pair.value(b"payload", b"E=main"), Some(&b"main"[..]));
+/// assert_eq!(pair.stored(b"payload", b"E=main"), None);
+/// // a value that ends outside its side, and a side that there is not
+/// assert_eq!(pair.value(b"payload", b"E=mai"), None);
+/// assert_eq!(Row { side: 2, ..pair }.text(b"payload", b"E=main"), None);
+///
+/// let unknown = Row { tag: Row::UNKNOWN, a: 7, b: 3, c: 4, ..Row::default() };
+/// assert_eq!(unknown.stored(b"payload", b""), Some(&b"load"[..]));
+/// assert_eq!(Row { b: u32::MAX, ..unknown }.stored(b"payload", b""), None);
+/// assert_eq!(unknown.text(b"payload", b""), None);
+/// ```
 #[repr(C)]
 #[derive(Clone, Copy, Debug, Default, PartialEq, Eq)]
 pub struct Row {
