@@ -53,7 +53,7 @@ pub fn check_text(text: &[u8]) -> Check
 fn check_any_text(text: &[u8]) -> Check
     ensures { λ r. ⌜ r ≡ verdict (checkText (now (text .entry))) ⌝ }
 {
-    match utf8::validate(text) {
+    match validate::validate(text) {
         Utf8::IllFormed(_) => Check::Refused(Refusal::NotUtf8),
         Utf8::WellFormed => {
             if wire::find_nul(text) == text.len() {

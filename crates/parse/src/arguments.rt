@@ -55,7 +55,7 @@ fn check_any_pair_text(payload: &[u8], at: usize, end: usize) -> MaybeText
         return MaybeText::Refused(Refusal::OpenText);
     }
     let stop = at + count;
-    match utf8::validate(&payload[at..stop]) {
+    match validate::validate(&payload[at..stop]) {
         Utf8::WellFormed => MaybeText::Text(TextLength(count as u32)),
         Utf8::IllFormed(_) => MaybeText::Refused(Refusal::NotUtf8),
     }

@@ -2,8 +2,4 @@ pub mod Alternatives
 pub mod ClassTable
 pub mod Laws
 pub mod Octets
-pub mod Prefix
-pub mod RuleGrammar
-pub mod RuleLaws
-pub mod Runs
 pub mod Table

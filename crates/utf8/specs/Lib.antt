@@ -1,3 +1,2 @@
 pub mod Classes
 pub mod Rfc3629
-pub mod Rule

@@ -12,7 +12,7 @@ pub extern "C" fn utf8_validate(text: &[u8], at: &mut usize) -> u32
     ensures { λ r. ⌜ r ≡ number (utf8Of (now (text .entry))) ⌝ }
     ensures { λ _. ⌜ now (at .exit) ≡ place (utf8Of (now (text .entry))) (now (at .entry)) ⌝ }
 {
-    match utf8::validate(text) {
+    match validate::validate(text) {
         Utf8::WellFormed => 0,
         Utf8::IllFormed(place) => {
             *at = place;

@@ -1,4 +1,4 @@
-// Runs `utf8::validate` over whole sets of short byte strings, and prints how many it finds well formed.
+// Runs `validate::validate` over whole sets of short byte strings, and prints how many it finds well formed.
 //
 // The expected output is worked out from the grammar of RFC 3629, section 4, and not from a run.
 // Characters: of one byte 128. Of two, 30 * 64 = 1,920. Of three, 32 * 64 for E0, 12 * 64 * 64 for
@@ -24,7 +24,7 @@ fn bytes(number: u64) -> [u8; 4] {
 
 // The place of the first ill-formed sequence, or the length of the text where there is none.
 fn well_formed_up_to(text: &[u8]) -> usize {
-    match utf8::validate(text) {
+    match validate::validate(text) {
         utf8::Utf8::WellFormed => text.len(),
         utf8::Utf8::IllFormed(at) => at,
     }
@@ -55,7 +55,7 @@ fn print_count(name: &[u8], found: u64) {
 
 fn print_answer(name: &[u8], text: &[u8]) {
     io::write_all(STDOUT_FILENO, name);
-    match utf8::validate(text) {
+    match validate::validate(text) {
         utf8::Utf8::WellFormed => {
             io::write_all(STDOUT_FILENO, b"well formed\n");
         }

@@ -8,7 +8,7 @@ use Rattle.utf8.proofs.read_with_table.Tie as tie
 
 read-octets-requires : tie.Need-read-octets-requires
 unfolding classOf placeIn
-read-octets-requires c κs = (c .before .before .pre, class-table _ tt)
+read-octets-requires c κs = class-table _ tt
 
 returns : tie.Need-returns
 returns c = c .read-octets .ensures

@@ -1,0 +1,4 @@
+pub mod Prefix
+pub mod RuleGrammar
+pub mod RuleLaws
+pub mod Runs
