@@ -1,40 +1,49 @@
--- The card section by section: what a section's line says, and what is left after it.
+-- The card section by section: the next section's line, if it has one, and the lines after it.
 -- Assumes nothing.
-use Prim.Native.Nat.{ℕ, zero, suc, _+_, _≤_}
-use mathlib.Core.List.{List}
-use mathlib.Core.Path.{_≡_, refl, sym, _∙_}
+use Prim.Native.Nat.{ℕ, suc, _+_, _-_, _≤_, _<_}
+use mathlib.Core.List.{List, [], _∷_, _++_, append-assoc}
+use mathlib.Core.Path.{_≡_, refl, sym, ap, _∙_}
+use native.Mathlib.Nat.{add-zero}
 use native.Mathlib.Omega.{arith}
-use lib.ListN.{length, length-append}
-use lib.Seq.{sets}
-use Rattle.wire.specs.Number.{u16At, u32At}
-use Rattle.wire.proofs.Sets.{sets-append}
+use lib.ListN.{length}
+use Rattle.wire.specs.Number.{u32At}
 use Rattle.layout.specs.Kinds.{known}
-use Rattle.format.specs.CardWalk.{publicContentsAt, publicLineAt, shownAt, cardLines}
-use Rattle.format.specs.Display.{packedLine, argumentsLine}
+use Rattle.layout.specs.declared.section_type.SourceInfoSectionType.{SourceInfoSectionType}
+use Rattle.layout.specs.declared.section_type.SourceInfoSectionType.the-variants.{SourceContents, SourceNames, Arguments, Unknown}
+use Rattle.format.specs.CardWalk.{publicLine, publicLineAt}
+use Rattle.format.specs.Display.{line, lines}
+use Rattle.format.specs.Parse.{kindAt}
+use Rattle.format.proofs.Storing.{takenFrom, taken-next, taken-end}
 
-module _ (p : List ℕ) (at : ℕ) where
-  pub packed-at : (n : ℕ) → (n ≡ 0 → ⊥) → publicContentsAt p n at ≡ packedLine (u32At p (at + 24)) 0
-  unfolding publicContentsAt
-  packed-at zero h = absurd (h refl)
-  packed-at (suc n) h = refl
+-- a kind has a line where it is known
+pub line-known : (p : List ℕ) (kind : SourceInfoSectionType) (at : ℕ) → length (publicLine p kind at) ≡ known kind
+unfolding publicLine
+line-known p SourceContents at = refl
+line-known p SourceNames at = refl
+line-known p Arguments at = refl
+line-known p (Unknown kind) at = refl
 
-  pub arguments-at : (kind : ℕ) → 2 ≤ kind → publicLineAt p kind at ≡ argumentsLine (u32At p (at + 16))
-  unfolding publicLineAt
-  arguments-at zero h = absurd (omega arith)
-  arguments-at (suc zero) h = absurd (omega arith)
-  arguments-at (suc (suc n)) h = refl
+lines-append : (place : ℕ) (a b : List (List ℕ)) → lines place (a ++ b) ≡ lines place a ++ lines (place + length a) b
+unfolding lines
+lines-append place [] b = rw add-zero
+lines-append place (text ∷ a) b =
+    let next : place + 1 + length a ≡ place + suc (length a) = omega arith in
+    ap (λ (l : List ℕ). line place text ++ l) (lines-append (place + 1) a b ∙ ap (λ (k : ℕ). lines (place + 1) a ++ lines k b) next) ∙
+    sym (append-assoc (line place text) (lines (place + 1) a) (lines (place + suc (length a)) b))
 
-module _ (p : List ℕ) (left at place to : ℕ) where
-  abbrev this : List ℕ
-  this = shownAt p (u16At p (at + 6)) at place
+-- the lines of so many sections from a place of the payload on, the first of which has a place on the card
+abbrev pub linesFrom : List ℕ → ℕ → ℕ → ℕ → List ℕ
+linesFrom p count at place = lines place (takenFrom p (publicLineAt p) count at)
 
-  abbrev rest : List ℕ
-  rest = cardLines p left (at + u32At p at) (place + known (u16At p (at + 6)))
+module _ (p : List ℕ) (count done at place : ℕ) where
+  pub lines-next :
+      done < count →
+      linesFrom p (count - done) at place ≡ lines place (publicLineAt p at) ++ linesFrom p (count - (done + 1)) (at + u32At p at) (place + known (kindAt p at))
+  lines-next more =
+      ap (lines place) (taken-next p (publicLineAt p) count done more at) ∙
+      lines-append place (publicLineAt p at) _ ∙
+      rw (line-known p (kindAt p at) at)
 
-  pub next-stored : (l target : List ℕ) → sets l to (cardLines p (suc left) at place) ≡ target → sets (sets l to this) (to + length this) rest ≡ target
-  unfolding cardLines
-  next-stored l target e = sym (sets-append this rest l to) ∙ e
-
-  pub next-length : to + length (cardLines p (suc left) at place) ≡ to + length this + length rest
-  unfolding cardLines
-  next-length = omega (arith, length-append this rest)
+  pub lines-end : count ≤ done → linesFrom p (count - done) at place ≡ []
+  unfolding lines
+  lines-end ended = rw (taken-end p (publicLineAt p) count done ended at)

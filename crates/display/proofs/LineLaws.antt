@@ -7,7 +7,7 @@ use native.Mathlib.Omega.{arith}
 use lib.ListN.{length, length-append}
 use lib.Seq.{sets}
 use Rattle.wire.proofs.Sets.{sets-joined}
-use Rattle.format.specs.Display.{ascii, decimal, hex, plainLine, packedLine, namesLine, argumentsLine, unknownLine, line}
+use Rattle.format.specs.Display.{ascii, decimal, hex, plainLine, packedLine, namesLine, argumentsLine, unknownLine, heading, line, lines, page}
 use Rattle.display.specs.Summary.{recordsLine}
 
 -- what a function that stores bytes at a place answers and leaves, where they are at most as many as a line has
@@ -100,3 +100,20 @@ unknown-stored place kind bytes l at first next after last e f g h =
 pub unknown-length : (place kind bytes : ℕ) → length (line place (unknownLine kind bytes)) ≡ 29 + (length (decimal place) + length (decimal bytes)) + 3
 unfolding ascii hex
 unknown-length place kind bytes = simp length-append (omega arith)
+
+-- ---- a page
+
+-- the heading of so many texts, and then their lines
+pub page-stored :
+    (texts : List (List ℕ)) (before : List ℕ) {between after : List ℕ} {count start end : ℕ} →
+    count ≡ length texts →
+    (start ≡ length (heading count)) × (between ≡ sets before 0 (heading count)) →
+    (end ≡ start + length (lines 0 texts)) × (after ≡ sets between start (lines 0 texts)) →
+    (end ≡ length (page texts)) × (after ≡ sets before 0 (page texts))
+unfolding page
+page-stored texts before {count = count} {start = start} many (first, headed) (last, stored) =
+    let all : List ℕ = lines 0 texts in
+    rw (← many) (
+      omega (arith, length-append (heading count) all),
+      stored ∙ rw headed (sets-joined (heading count) all before 0 start (omega arith)),
+    )

@@ -11,11 +11,17 @@ use Rattle.wire.specs.Number.{u16At, u32At}
 use Rattle.wire.specs.Padding.{padding}
 use Rattle.wire.proofs.PaddingLaws.{padding-by-arithmetic, aligned-of-multiple, allZero-replicate}
 use Rattle.layout.specs.Checked.{good}
-use Rattle.layout.specs.Rows.{row}
-use Rattle.layout.specs.Texts.{part}
-use Rattle.layout.specs.declared.row.Row.{Row}
-use Rattle.format.specs.Encoding.{contentEntry, nameEntry, pairEntry, storedBytes, bodyHeader, kindOf, encodeSection, entriesFit}
-use Rattle.format.specs.Parse as Parse
+use Rattle.layout.specs.Kinds.{kindNumber, checkedCompression}
+use Rattle.layout.specs.Spans.{part}
+use Rattle.layout.specs.declared.compression.SourceCompression.the-variants.{None}
+use Rattle.layout.specs.declared.section_type.SourceInfoSectionType.{SourceInfoSectionType}
+use Rattle.layout.specs.declared.section_type.SourceInfoSectionType.the-variants.{SourceContents, SourceNames, Arguments, Unknown}
+use Rattle.layout.proofs.Promises.{kind-has-number}
+use Rattle.layout.proofs.Unknown.{unknown-least}
+use Rattle.table.specs.Rows.{plainRow, namesRow, argumentsRow}
+use Rattle.table.specs.declared.row.Row.{Row}
+use Rattle.format.specs.Encoding.{contentEntry, nameEntry, pairEntry, storedBytes, bodyHeader, kindOf, encodeSection, countable}
+use Rattle.format.specs.Parse.{parseArguments, parseNames, packedRowAt, parseStored, parseContents, unknownRowAt, parseSection, kindAt}
 use Rattle.format.specs.Sections.{Section, plain, packed, names, arguments, unknown}
 use Rattle.format.specs.WellFormed.{Bytes, WellFormed}
 use Rattle.format.proofs.FrameLaws.{Frame, Framed}
@@ -31,18 +37,18 @@ pub record Found (p : List ℕ) (at size : ℕ) (rs : List Row) : Type 0 where
   pub stand : Stands p at (encodeSection section)
   pub spans : length (encodeSection section) ≡ size
   pub ok : WellFormed section
-  pub fit : entriesFit section ≡ true
+  pub fit : countable section ≡ true
   pub rows : rs ≡ rowsOfSection at section
 
 module _ (p : List ℕ) (bytes : Bytes p) (at size : ℕ) (frame : Frame p at size) (rs : List Row) where
   found :
       (s : Section) →
-      u16At p (at + 6) ≡ kindOf s →
+      u16At p (at + 6) ≡ kindNumber (kindOf s) →
       Framed p at size (start s) (length (storedBytes s)) →
       Stands p (at + 8) (bodyHeader s (length (storedBytes s))) →
       Stands p (at + start s) (storedBytes s) →
       WellFormed s →
-      entriesFit s ≡ true →
+      countable s ≡ true →
       rs ≡ rowsOfSection at s →
       Found p at size rs
   found s kind framed header stored ok fit rows =
@@ -59,8 +65,8 @@ module _ (p : List ℕ) (bytes : Bytes p) (at size : ℕ) (frame : Frame p at si
 
   -- ---- names
 
-  pub names-stand : u16At p (at + 6) ≡ 1 → Parse.names p at size ≡ good rs → Found p at size rs
-  unfolding storedBytes bodyHeader kindOf entriesFit rowsOfSection
+  pub names-stand : u16At p (at + 6) ≡ 1 → parseNames p at size ≡ good rs → Found p at size rs
+  unfolding storedBytes bodyHeader kindOf countable rowsOfSection
   names-stand kind e =
       let (framed, held, flags) = names-good p at size rs e in
       let stored : ℕ = u16At p (at + 16) in
@@ -73,12 +79,12 @@ module _ (p : List ℕ) (bytes : Bytes p) (at size : ℕ) (frame : Frame p at si
       (number-stands p 4 (at + 12) (at + 16) _ _ (omega arith) bytes (omega arith) (sym (run .many)) (rw size-is (spelt p bytes 2 (at + 16) (omega arith)))))
       (run .stand) (run .ok)
       (le-leb (length (flatMap nameEntry (run .items))) 65535 (omega (arith, size-is, number-below p bytes 2 (at + 16))))
-      (held .all ∙ ap (λ (l : List Row). row 2 0 0 0 0 0 0 ∷ l) (run .rows))
+      (held .all ∙ ap (λ (l : List Row). namesRow ∷ l) (run .rows))
 
   -- ---- arguments
 
-  pub arguments-stand : u16At p (at + 6) ≡ 2 → Parse.arguments p at size ≡ good rs → Found p at size rs
-  unfolding storedBytes bodyHeader kindOf entriesFit rowsOfSection
+  pub arguments-stand : u16At p (at + 6) ≡ 2 → parseArguments p at size ≡ good rs → Found p at size rs
+  unfolding storedBytes bodyHeader kindOf countable rowsOfSection
   arguments-stand kind e =
       let (framed, held, flags) = arguments-good p at size rs e in
       let stored : ℕ = u32At p (at + 12) in
@@ -90,7 +96,7 @@ module _ (p : List ℕ) (bytes : Bytes p) (at size : ℕ) (frame : Frame p at si
       (number-stands p 4 (at + 8) (at + 12) _ _ (omega arith) bytes (omega arith) flags
       (number-stands p 4 (at + 12) (at + 16) _ _ (omega arith) bytes (omega arith) (sym size-is) (rw (run .many) (spelt p bytes 4 (at + 16) (omega arith)))))
       (run .stand) (run .ok) refl
-      (held .all ∙ ap (λ (l : List Row). row 3 0 0 0 0 0 0 ∷ l) (run .rows))
+      (held .all ∙ ap (λ (l : List Row). argumentsRow ∷ l) (run .rows))
 
   -- ---- contents
 
@@ -99,9 +105,9 @@ module _ (p : List ℕ) (bytes : Bytes p) (at size : ℕ) (frame : Frame p at si
       Framed p at size 28 (u32At p (at + 16)) →
       u16At p (at + 12) ≡ 0 →
       u16At p (at + 14) ≡ 0 →
-      Parse.stored zero p at (u32At p (at + 16)) ≡ good rs →
+      parseStored None p at ≡ good rs →
       Found p at size rs
-  unfolding storedBytes bodyHeader kindOf entriesFit rowsOfSection
+  unfolding storedBytes bodyHeader kindOf countable rowsOfSection
   plain-stand kind framed flags compression e =
       let held = plain-good p at rs e in
       let equal = plain-equal p at rs e in
@@ -118,16 +124,16 @@ module _ (p : List ℕ) (bytes : Bytes p) (at size : ℕ) (frame : Frame p at si
       (number-stands p 4 (at + 20) (at + 24) _ _ (omega arith) bytes (omega arith) (equal ∙ sym size-is) (rw (run .many) (spelt p bytes 4 (at + 24) (omega arith))))))))
       (run .stand)
       (number-below p bytes 4 (at + 8), run .ok) refl
-      (held .all ∙ ap (λ (l : List Row). row 0 0 (u32At p (at + 8)) 0 0 0 0 ∷ l) (run .rows))
+      (held .all ∙ ap (λ (l : List Row). plainRow (u32At p (at + 8)) ∷ l) (run .rows))
 
   packed-stand :
       u16At p (at + 6) ≡ 0 →
       Framed p at size 28 (u32At p (at + 16)) →
       u16At p (at + 12) ≡ 0 →
       u16At p (at + 14) ≡ 1 →
-      rs ≡ row 1 0 (u32At p (at + 8)) (at + 28) (u32At p (at + 16)) (u32At p (at + 24)) (u32At p (at + 20)) ∷ [] →
+      rs ≡ packedRowAt p at ∷ [] →
       Found p at size rs
-  unfolding storedBytes bodyHeader kindOf entriesFit rowsOfSection
+  unfolding storedBytes bodyHeader kindOf countable rowsOfSection
   packed-stand kind framed flags compression rows =
       let stored : ℕ = u32At p (at + 16) in
       let room : at + 28 + stored ≤ length p = omega (arith, frame .within, framed .within) in
@@ -143,8 +149,8 @@ module _ (p : List ℕ) (bytes : Bytes p) (at size : ℕ) (frame : Frame p at si
       (number-below p bytes 4 (at + 8), part-bytes p bytes (at + 28) stored, number-below p bytes 4 (at + 24), number-below p bytes 4 (at + 20)) refl
       (rows ∙ rw size-is)
 
-  pub contents-stand : u16At p (at + 6) ≡ 0 → Parse.contents p at size ≡ good rs → Found p at size rs
-  unfolding Parse.stored
+  pub contents-stand : u16At p (at + 6) ≡ 0 → parseContents p at size ≡ good rs → Found p at size rs
+  unfolding parseStored
   contents-stand kind e =
       let (framed, held, flags, known) = contents-good p at size rs e in
       go framed flags (u16At p (at + 14)) refl held known
@@ -154,7 +160,7 @@ module _ (p : List ℕ) (bytes : Bytes p) (at size : ℕ) (frame : Frame p at si
           u16At p (at + 12) ≡ 0 →
           (n : ℕ) →
           u16At p (at + 14) ≡ n →
-          Parse.stored n p at (u32At p (at + 16)) ≡ good rs →
+          parseStored (checkedCompression n) p at ≡ good rs →
           n ≤ 1 →
           Found p at size rs
       go framed flags zero is held known = plain-stand kind framed flags is held
@@ -163,8 +169,8 @@ module _ (p : List ℕ) (bytes : Bytes p) (at size : ℕ) (frame : Frame p at si
 
   -- ---- a section of an unknown kind, and of any
 
-  pub unknown-stand : 3 ≤ u16At p (at + 6) → rs ≡ row 4 0 (u16At p (at + 6)) (at + 8) (size - 8) 0 0 ∷ [] → Found p at size rs
-  unfolding storedBytes bodyHeader kindOf entriesFit rowsOfSection
+  pub unknown-stand : 3 ≤ u16At p (at + 6) → rs ≡ unknownRowAt (u16At p (at + 6)) at size ∷ [] → Found p at size rs
+  unfolding storedBytes bodyHeader kindOf countable rowsOfSection
   unknown-stand kind rows =
       let room : at + 8 + (size - 8) ≤ length p = omega (arith, frame .least, frame .within) in
       let all : List ℕ = part p (at + 8) (size - 8) in
@@ -179,14 +185,18 @@ module _ (p : List ℕ) (bytes : Bytes p) (at size : ℕ) (frame : Frame p at si
       (rows ∙ rw size-is)
 
 module _ (p : List ℕ) (bytes : Bytes p) (at size : ℕ) (frame : Frame p at size) where
-  pub body-stands : (rs : List Row) → Parse.body (u16At p (at + 6)) p at size ≡ good rs → Found p at size rs
-  unfolding Parse.body
-  body-stands rs e = go (u16At p (at + 6)) refl e
+  pub section-found : (rs : List Row) → parseSection (kindAt p at) p at size ≡ good rs → Found p at size rs
+  unfolding parseSection
+  section-found rs e = go (kindAt p at) refl e
     where
-      go : (kind : ℕ) → u16At p (at + 6) ≡ kind → Parse.body kind p at size ≡ good rs → Found p at size rs
-      go zero is f = contents-stand p bytes at size frame rs is f
-      go (suc zero) is f = names-stand p bytes at size frame rs is f
-      go (suc (suc zero)) is f = arguments-stand p bytes at size frame rs is f
-      go (suc (suc (suc n))) is f =
-          let one : rs ≡ row 4 0 (suc (suc (suc n))) (at + 8) (size - 8) 0 0 ∷ [] = cc in
-          unknown-stand p bytes at size frame rs (omega arith) (rw is one)
+      -- its number is that of its kind
+      number : (kind : SourceInfoSectionType) → kindAt p at ≡ kind → u16At p (at + 6) ≡ kindNumber kind
+      number kind is = sym (kind-has-number (u16At p (at + 6))) ∙ ap kindNumber is
+
+      go : (kind : SourceInfoSectionType) → kindAt p at ≡ kind → parseSection kind p at size ≡ good rs → Found p at size rs
+      go SourceContents is f = contents-stand p bytes at size frame rs (number SourceContents is) f
+      go SourceNames is f = names-stand p bytes at size frame rs (number SourceNames is) f
+      go Arguments is f = arguments-stand p bytes at size frame rs (number Arguments is) f
+      go (Unknown kind) is f =
+          let one : rs ≡ unknownRowAt kind at size ∷ [] = cc in
+          unknown-stand p bytes at size frame rs (unknown-least (u16At p (at + 6)) kind is) (rw (number (Unknown kind) is) one)

@@ -1,41 +1,42 @@
 -- The walk of specs/CopyWalk.antt finds the public sections: where sections stand, what it takes of each is the section that a public copy has.
 -- Assumes nothing.
-use Prim.Native.Nat.{ℕ, zero, suc, _+_, _-_, _≤_}
-use mathlib.Core.Bool.{true, and-eq-true-iff}
-use mathlib.Core.List.{List, [], _∷_, _++_, map, flatMap, map-append, append-assoc, append-nil}
+use Prim.Native.Nat.{ℕ, _+_, _-_, _≤_}
+use mathlib.Core.List.{List, [], _∷_, _++_, map, flatMap, append-assoc}
 use mathlib.Core.Path.{_≡_, refl, sym, ap, ap₂, _∙_}
 use native.Mathlib.Omega.{arith}
-use borrow.Author.Tests.{le-ltb}
 use lib.ListN.{length, replicate, length-append, length-replicate, length-map}
 use Rattle.wire.specs.Length.{wireSize}
 use Rattle.wire.specs.Number.{u32At}
 use Rattle.wire.specs.Padding.{padding, aligned}
 use Rattle.wire.proofs.NumberLaws.{length-bytesOf}
 use Rattle.layout.specs.Checked.{Checked, good}
-use Rattle.layout.specs.Kinds.{known}
-use Rattle.layout.proofs.Lists.{flatMap-append}
-use Rattle.layout.specs.Texts.{part}
-use Rattle.layout.specs.declared.row.Row.{Row}
-use Rattle.format.specs.CopyWalk.{nameCopy, nameCopies, contentsCopy, copyAt, knownFrom, copiesFrom, copy}
-use Rattle.format.specs.Encoding.{u16, u32, terminate, limit, nameEntry, storedBytes, bodyHeader, kindOf, encodeSection, encode, allFit}
+use Rattle.layout.specs.Spans.{part}
+use Rattle.layout.proofs.Lists.{map-flatMap, flatMap-map}
+use Rattle.table.specs.declared.row.Row.{Row}
+use Rattle.format.specs.CopyWalk.{nameCopy, nameCopies, contentsCopy, namesCopy, sectionCopy, copyAt, copyOf, copy}
+use Rattle.format.specs.Encoding.{u16, u32, terminate, limit, nameEntry, storedBytes, bodyHeader, kindOf, encodeSection, encode}
 use Rattle.format.specs.Parse.{parse}
 use Rattle.format.specs.PublicCopy.{publicCopy}
-use Rattle.format.specs.Secrecy.{sectionOf}
+use Rattle.format.specs.PublicFacts.{Fact, publicFacts}
+use Rattle.format.specs.Read.{accepted}
+use Rattle.format.specs.Secrecy.{sectionOf, made}
 use Rattle.format.specs.Sections.{Name, Section, plain, packed, names, arguments, unknown}
-use Rattle.format.specs.WellFormed.{Bytes, All, WellFormed}
-use Rattle.format.proofs.Encoding.{length-nameEntry, fits-good}
-use Rattle.format.proofs.FactsOf.{factOf, factsOf, publicSections}
-use Rattle.format.proofs.PayloadStands.{Payload, payload-stands}
-use Rattle.format.proofs.PublicRows.{public-copy-is}
-use Rattle.format.proofs.PublicSections.{publicNames, names-long, public-fits}
-use Rattle.format.proofs.SectionBytes.{filled, length-section, SectionAt, stands-section}
-use Rattle.format.proofs.SectionFields.{Fields, section-fields, known-kind}
+use Rattle.format.specs.Walk.{places}
+use Rattle.format.specs.WellFormed.{Bytes}
+use Rattle.format.proofs.Encoding.{length-nameEntry}
+use Rattle.format.proofs.FactsFound.{public-facts}
+use Rattle.format.proofs.FactsOf.{factOf, factsOf}
+use Rattle.format.proofs.PayloadStands.{payload-stands}
+use Rattle.format.proofs.PublicSections.{publicNames, names-long}
+use Rattle.format.proofs.Secrecy.{copy-of-facts}
+use Rattle.format.proofs.SectionBytes.{length-section}
+use Rattle.format.proofs.SectionsFound.{Here, paired-flatMap, payload-here}
 use Rattle.format.proofs.Stands.{Stands, stands-first, stands-next, stands-part, spells}
 
 -- ---- names
 
 -- a name with the content size of an empty content
-abbrev pub named : List ℕ → Name
+abbrev named : List ℕ → Name
 named text = record { text = text; contentSize = 1 }
 
 -- an entry before its content size, and after it
@@ -116,117 +117,66 @@ names-split ns =
 
 -- ---- a section
 
-module _ (p : List ℕ) (small : length p ≤ limit) (at : ℕ) where
-  names-section :
-      (ns : List Name) →
-      at + length (encodeSection (names ns)) ≤ length p →
-      Stands p at (encodeSection (names ns)) →
-      Fields p at (names ns) →
-      u32At p at ≡ length (encodeSection (names ns)) →
-      copyAt p 1 at ≡ encodeSection (names (publicNames ns))
-  unfolding copyAt
-  names-section ns within s (flags, count, stored) size =
+module _ (p : List ℕ) (at : ℕ) where
+  names-section : (ns : List Name) → Here p at (names ns) → namesCopy p at ≡ encodeSection (names (publicNames ns))
+  unfolding namesCopy
+  names-section ns h =
+      let (flags, count, stored) = h .fields in
       let bytes : List ℕ = flatMap nameEntry ns in
       let ms : List Name = publicNames ns in
       let zeros : List ℕ = replicate (padding (18 + length bytes)) 0 in
       let head : List ℕ = heads (length ns) (length bytes) in
       let split = names-split ns in
+      let within = h .within in
+      let size : u32At p at ≡ length (encodeSection (names ns)) = h .parts .size ∙ sym (length-section (names ns)) in
       let lengths : length (encodeSection (names ns)) ≡ 18 + (length bytes + length zeros) =
       ap length split ∙ length-append head (bytes ++ zeros) ∙ ap₂ (λ (a b : ℕ). a + b) (length-heads (length ns) (length bytes)) (length-append bytes zeros) in
-      let s₁ = rw split at s in
+      let s₁ = rw split at (h .stand) in
       let s₂ = stands-next p at head (bytes ++ zeros) (at + 18) (omega (arith, length-heads (length ns) (length bytes))) s₁ in
       let s₃ = stands-next p (at + 18) bytes zeros (at + 18 + length bytes) refl s₂ in
       let first : part p at 18 ≡ head = ap (part p at) (sym (length-heads (length ns) (length bytes))) ∙ stands-part p at head (stands-first p at head (bytes ++ zeros) s₁) in
-      let entries = names-copied p small ns (at + 18) (omega arith) (stands-first p (at + 18) bytes zeros s₂) in
+      let entries = names-copied p (h .small) ns (at + 18) (omega arith) (stands-first p (at + 18) bytes zeros s₂) in
       let left : u32At p at - (18 + length bytes) ≡ length zeros = omega arith in
       let last : part p (at + 18 + length bytes) (length zeros) ≡ zeros = stands-part p (at + 18 + length bytes) zeros s₃ in
       let same : heads (length ms) (length (flatMap nameEntry ms)) ≡ head = rw (names-long ns) (ap (λ (k : ℕ). heads k (length bytes)) (length-map (map (λ (n : Name). n .text) ns) named ∙ length-map ns (λ (n : Name). n .text))) in
       rw (count, stored, left, first, entries, last)
       (sym (names-split ms ∙ ap₂ (λ (h z : List ℕ). h ++ (flatMap nameEntry ms ++ z)) same (ap (λ (k : ℕ). replicate (padding (18 + k)) 0) (names-long ns))))
 
-  unknown-copied : (kind : ℕ) → 3 ≤ kind → copyAt p kind at ≡ []
-  unfolding copyAt
-  unknown-copied zero h = absurd (omega arith)
-  unknown-copied (suc zero) h = absurd (omega arith)
-  unknown-copied (suc (suc zero)) h = absurd (omega arith)
-  unknown-copied (suc (suc (suc n))) h = refl
+-- the bytes that a public copy has for a fact
+abbrev copied : Fact → List ℕ
+copied f = encodeSection (sectionOf f)
 
-  -- what the walk takes of a section is what a public copy has for it
-  section-copied :
-      (s : Section) →
-      WellFormed s →
-      at + length (encodeSection s) ≤ length p →
-      Stands p at (encodeSection s) →
-      SectionAt p at s →
-      Fields p at s →
-      copyAt p (kindOf s) at ≡ flatMap encodeSection (map sectionOf (factOf s))
-  unfolding copyAt contentsCopy kindOf factOf sectionOf flatMap
-  section-copied (plain header texts) ok within s g (field, flags, compression, bytes, equal, count) =
-      rw (compression, count) (sym (append-nil _))
-  section-copied (packed header stream many uncompressed) ok within s g (field, flags, compression, bytes, unpacked, count) =
-      rw (compression, count) (sym (append-nil _))
-  section-copied (names ns) ok within s g fields =
-      names-section ns within s fields (g .size ∙ sym (length-section (names ns))) ∙ sym (append-nil _)
-  section-copied (arguments xs) ok within s g fields =
-      rw (g .size, ← length-section (arguments xs)) (stands-part p at (encodeSection (arguments xs)) s ∙ sym (append-nil _))
-  section-copied (unknown kind bytes) ok within s g fields = unknown-copied kind (ok .0)
+-- what the walk takes of a section is what a public copy has for it
+copy-at : (p : List ℕ) (at : ℕ) (s : Section) → Here p at s → copyAt p at ≡ map copied (factOf s)
+unfolding sectionCopy contentsCopy kindOf factOf sectionOf
+copy-at p at s h = rw (h .kind) (go s h)
+  where
+    go : (s : Section) → Here p at s → sectionCopy p (kindOf s) at ≡ map copied (factOf s)
+    go (plain header texts) h = let (field, flags, compression, bytes, equal, count) = h .fields in rw (compression, count)
+    go (packed header stream many uncompressed) h = let (field, flags, compression, bytes, unpacked, count) = h .fields in rw (compression, count)
+    go (names ns) h = ap (λ (l : List ℕ). l ∷ []) (names-section p at ns h)
+    go (arguments xs) h = rw (h .parts .size, ← length-section (arguments xs)) (ap (λ (l : List ℕ). l ∷ []) (stands-part p at (encodeSection (arguments xs)) (h .stand)))
+    go (unknown kind bytes) h = refl
 
--- it counts where a public copy has a section for it
-section-known : (s : Section) → WellFormed s → known (kindOf s) ≡ length (map sectionOf (factOf s))
-unfolding kindOf factOf
-section-known (plain header texts) ok = refl
-section-known (packed header stream count uncompressed) ok = refl
-section-known (names ns) ok = refl
-section-known (arguments xs) ok = refl
-section-known (unknown kind bytes) ok = rw (le-ltb kind 3 (ok .0))
+-- ---- a payload
 
--- ---- sections, and a payload
-
--- the public sections of one section and of others
-pub public-first : (s : Section) (ss : List Section) → publicSections (s ∷ ss) ≡ map sectionOf (factOf s) ++ publicSections ss
-unfolding publicSections factsOf flatMap
-public-first s ss = map-append sectionOf (factOf s) (flatMap factOf ss)
-
-pub copies-found :
-    (p : List ℕ) →
-    length p ≤ limit →
-    (ss : List Section) (at : ℕ) →
-    All WellFormed ss →
-    allFit ss ≡ true →
-    at + length (flatMap encodeSection ss) ≤ length p →
-    Stands p at (flatMap encodeSection ss) →
-    (copiesFrom p (length ss) at ≡ flatMap encodeSection (publicSections ss)) × (knownFrom p (length ss) at ≡ length (publicSections ss))
-unfolding copiesFrom knownFrom flatMap allFit
-copies-found p small [] at ok fit within stand = unfold publicSections in unfold factsOf in (refl, refl)
-copies-found p small (s ∷ ss) at (ok, oks) fit within stand =
-    let (this, others) = simp and-eq-true-iff at fit in
-    let spans : length (encodeSection s) ≡ aligned (filled s) = length-section s in
-    let sum = length-append (encodeSection s) (flatMap encodeSection ss) in
-    let inside : at + aligned (filled s) ≤ length p = omega arith in
-    let here = stands-first p at (encodeSection s) (flatMap encodeSection ss) stand in
-    let g = stands-section p at s inside small (known-kind s ok) here in
-    let next : ℕ = at + aligned (filled s) in
-    let (copies, many) = copies-found p small ss next oks others (omega arith) (stands-next p at (encodeSection s) (flatMap encodeSection ss) next (omega arith) stand) in
-    let copied = section-copied p small at s ok (omega arith) here g (section-fields p small at s ok this inside (g .header)) in
-    let mine : List Section = map sectionOf (factOf s) in
-    rw (g .kind, g .size, public-first s ss) (
-      ap₂ (λ (a b : List ℕ). a ++ b) copied copies ∙ sym (flatMap-append encodeSection mine (publicSections ss)),
-      ap₂ (λ (a b : ℕ). a + b) (section-known s ok) many ∙ sym (length-append mine (publicSections ss)),
-    )
-
-pub copy-encoded : (p : List ℕ) (rows : List Row) → (all : Payload p rows) → copy p ≡ encode (publicSections (all .sections))
-unfolding copy encode
-copy-encoded p rows all =
-    let ss : List Section = all .sections in
-    let (few, fit, most) = fits-good ss (all .fit) in
-    let (copies, many) = copies-found p (all .small) ss 8 (all .ok) fit (omega (arith, all .ends)) (all .stand) in
-    rw (all .many, copies, many)
+-- the sections of facts, after a main header
+copies-encoded : (facts : List Fact) → copyOf (map copied facts) ≡ made facts
+unfolding copyOf made encode
+copies-encoded facts =
+    let bytes : flatMap (λ (s : List ℕ). s) (map copied facts) ≡ flatMap encodeSection (map sectionOf facts) =
+    flatMap-map (λ (s : List ℕ). s) copied facts ∙ sym (flatMap-map encodeSection sectionOf facts) in
+    rw (bytes, length-map facts copied, length-map facts sectionOf)
 
 -- of an accepted payload the walk is the public copy
 pub copy-found : (p : List ℕ) (rows : List Row) → Bytes p → parse p ≡ good rows → publicCopy p ≡ good (copy p)
+unfolding copy accepted factsOf
 copy-found p rows bytes e =
     let all = payload-stands p bytes rows e in
     let ss : List Section = all .sections in
-    ap publicCopy (sym (all .is)) ∙
-    public-copy-is ss (all .ok) (public-fits ss (all .fit)) (all .fit) ∙
-    ap {B = Checked (List ℕ)} (λ (l : List ℕ). good l) (sym (copy-encoded p rows all))
+    let taken : flatMap (copyAt p) (places p) ≡ map copied (factsOf ss) =
+    paired-flatMap (Here p) (copyAt p) (λ (s : Section). map copied (factOf s)) (copy-at p) (places p) ss (payload-here p rows all) ∙ map-flatMap factOf copied ss in
+    let facts : publicFacts p ≡ factsOf ss = ap publicFacts (sym (all .is)) ∙ public-facts ss (all .ok) (all .fit) in
+    copy-of-facts p (bytes, rw e refl) ∙
+    ap {B = Checked (List ℕ)} (λ (l : List Fact). good (made l)) facts ∙
+    ap {B = Checked (List ℕ)} (λ (l : List ℕ). good l) (sym (ap copyOf taken ∙ copies-encoded (factsOf ss)))

@@ -17,13 +17,13 @@ use Rattle.format.specs.Display.{digit, decimalWithin, decimal}
 first : (b : Bool) (x y : List ℕ) → b ≡ true → elim b [ true ↦ x | false ↦ y ] ≡ x
 first b x y e = rw e
 
-within-last : (most n : ℕ) → n < 10 → decimalWithin (suc most) n ≡ digit n ∷ []
+within-last : (digits n : ℕ) → n < 10 → decimalWithin (suc digits) n ≡ digit n ∷ []
 unfolding decimalWithin
-within-last most n h = first (ltb n 10) (digit n ∷ []) (decimalWithin most (n / 10) ++ (digit (n % 10) ∷ [])) (lt-ltb n 10 h)
+within-last digits n h = first (ltb n 10) (digit n ∷ []) (decimalWithin digits (n / 10) ++ (digit (n % 10) ∷ [])) (lt-ltb n 10 h)
 
-within-more : (most n : ℕ) → 10 ≤ n → decimalWithin (suc most) n ≡ decimalWithin most (n / 10) ++ (digit (n % 10) ∷ [])
+within-more : (digits n : ℕ) → 10 ≤ n → decimalWithin (suc digits) n ≡ decimalWithin digits (n / 10) ++ (digit (n % 10) ∷ [])
 unfolding decimalWithin
-within-more most n h = rw (decimalWithin, le-ltb n 10 h)
+within-more digits n h = rw (decimalWithin, le-ltb n 10 h)
 
 -- more room for digits makes no difference
 within-enough : (k m n : ℕ) → n < k → n < m → decimalWithin k n ≡ decimalWithin m n

@@ -8,11 +8,12 @@ use mathlib.Core.Path.{_≡_, sym, ap, _∙_}
 use native.Mathlib.Omega.{arith}
 use lib.ListN.{length}
 use Rattle.layout.specs.Checked.{Checked, good}
-use Rattle.layout.specs.declared.row.Row.{Row}
+use Rattle.table.specs.declared.row.Row.{Row}
+use Rattle.table.specs.declared.tag.Tag.the-variants.{None}
 use Rattle.layout.proofs.Checked.{check-passes, then-passes}
-use Rattle.format.specs.Encoding.{u16, u32, encodeSection, encode, fits}
+use Rattle.format.specs.Encoding.{u16, u32, encodeSection, encode, withinLimits}
 use Rattle.format.specs.Resolve.{sectionsOf, resolve}
-use Rattle.format.specs.Rules.{checkRows, noTag}
+use Rattle.format.specs.Rules.{checkRows}
 use Rattle.format.specs.Said.{said}
 use Rattle.format.specs.Sections.{Section}
 use Rattle.format.specs.WellFormed.{All, WellFormed}
@@ -40,14 +41,14 @@ module _ (ss : List Section) (ok : All WellFormed ss) (p : List ℕ) (rows : Lis
   pub sections-are : sectionsOf p edit rows ≡ ss
   sections-are = rw (its, ← is) (encoded-sections ss edit)
 
-  pub rows-obey : checkRows p edit noTag rows ≡ good tt
-  rows-obey = rw (its, ← is) (rows-pass (encode ss) edit ss 8 ok (omega (arith, length-encode ss)) (stand ss) noTag)
+  pub rows-obey : checkRows p edit None rows ≡ good tt
+  rows-obey = rw (its, ← is) (rows-pass (encode ss) edit ss 8 ok (omega (arith, length-encode ss)) (stand ss) None)
 
   pub resolves : resolve p edit rows ≡ good ss
   unfolding resolve
   resolves = then-passes _ _ rows-obey (ap {B = Checked (List Section)} (λ (l : List Section). good l) sections-are)
 
-  pub writes : fits ss ≡ true → written p edit rows ≡ good p
+  pub writes : withinLimits ss ≡ true → written p edit rows ≡ good p
   unfolding written
   writes fit = then-passes _ _ resolves (check-passes _ _ _ fit (ap {B = Checked (List ℕ)} (λ (l : List ℕ). good l) is))
 

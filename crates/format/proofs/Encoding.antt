@@ -13,7 +13,7 @@ use Rattle.wire.specs.Length.{wireSize}
 use Rattle.wire.proofs.NumberLaws.{length-bytesOf}
 use Rattle.wire.proofs.PaddingLaws.{aligned-multiple}
 use Rattle.format.specs.Sections.{Name, Pair, Section, plain, packed, names, arguments, unknown}
-use Rattle.format.specs.Encoding.{padded, contentEntry, nameEntry, pairEntry, storedBytes, bodyHeader, encodeSection, encode, limit, allFit, fits}
+use Rattle.format.specs.Encoding.{padded, contentEntry, nameEntry, pairEntry, storedBytes, bodyHeader, encodeSection, encode, limit, allCountable, withinLimits}
 use Rattle.layout.proofs.Lists.{flatMap-multiple}
 
 -- brings the length of a record to one sum, its numerals added up
@@ -76,13 +76,13 @@ encode-least ss = omega (arith, length-encode ss)
 
 -- ---- the limits
 
-pub fits-good : (ss : List Section) → fits ss ≡ true → (length ss ≤ 65535) × (allFit ss ≡ true) × (length (encode ss) ≤ limit)
-unfolding fits
-fits-good ss e =
-    let (short, small) = and-eq-true-iff (leb (length ss) 65535 && allFit ss) (leb (length (encode ss)) limit) .0 e in
-    let (few, all) = and-eq-true-iff (leb (length ss) 65535) (allFit ss) .0 short in
+pub limits-good : (ss : List Section) → withinLimits ss ≡ true → (length ss ≤ 65535) × (allCountable ss ≡ true) × (length (encode ss) ≤ limit)
+unfolding withinLimits
+limits-good ss e =
+    let (short, small) = and-eq-true-iff (leb (length ss) 65535 && allCountable ss) (leb (length (encode ss)) limit) .0 e in
+    let (few, all) = and-eq-true-iff (leb (length ss) 65535) (allCountable ss) .0 short in
     (leb-true (length ss) 65535 few, all, leb-true (length (encode ss)) limit small)
 
-pub fits-found : (ss : List Section) → length ss ≤ 65535 → allFit ss ≡ true → length (encode ss) ≤ limit → fits ss ≡ true
-unfolding fits
-fits-found ss few all small = rw (le-leb (length ss) 65535 few, all, le-leb (length (encode ss)) limit small)
+pub limits-found : (ss : List Section) → length ss ≤ 65535 → allCountable ss ≡ true → length (encode ss) ≤ limit → withinLimits ss ≡ true
+unfolding withinLimits
+limits-found ss few all small = rw (le-leb (length ss) 65535 few, all, le-leb (length (encode ss)) limit small)

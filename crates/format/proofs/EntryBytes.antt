@@ -11,8 +11,7 @@ use Rattle.wire.specs.Padding.{padding, aligned}
 use Rattle.wire.proofs.NumberLaws.{length-bytesOf}
 use Rattle.wire.proofs.PaddingLaws.{le-aligned}
 use Rattle.layout.specs.Checked.{good}
-use Rattle.layout.specs.TextCheck.{checkText}
-use Rattle.layout.specs.Texts.{part}
+use Rattle.layout.specs.Spans.{part}
 use Rattle.format.specs.Encoding.{u32, padded, terminate, contentEntry, nameEntry, limit}
 use Rattle.format.specs.Parse.{entry, afterEntry}
 use Rattle.format.specs.Sections.{Name}
@@ -84,11 +83,11 @@ module _ (header : ℕ) (middle : List ℕ) (sum : header ≡ 12 + length middle
     -- an entry's bytes, and what reading finds in them
     pub stands-fields :
         length p ≤ limit →
-        checkText text ≡ good tt →
+        Text text →
         at + aligned (header + wireSize n) ≤ end →
         Stands p at (entryBytes header middle text) →
         Entry header p at end n × Stands p (at + 12) middle × Stands p (at + header) text
-    stands-fields small checked within s =
+    stands-fields small ok within s =
         let whole : ℕ = aligned (header + wireSize n) in
         let top : header + wireSize n ≤ whole = le-aligned (header + wireSize n) in
         let after : at + header + wireSize n ≡ at + length (unpadded header middle text) = omega (arith, length-unpadded text) in
@@ -103,7 +102,7 @@ module _ (header : ℕ) (middle : List ℕ) (sum : header ≡ 12 + length middle
             flags = flags;
             text = told;
             size = size;
-            checked = rw (stands-part p (at + header) text this) checked;
+            checked = ok-text p (at + header) n text (stands-part p (at + header) text this) ok;
             closed = stands-nul p (at + header + n) (stands-next p (at + header) text (0 ∷ []) (at + header + n) refl body);
             padded = stands-zeros p (at + header + wireSize n) (padding (header + wireSize n)) (rw (length-unpadded text) at zeros);
           },
@@ -129,7 +128,7 @@ module _ (header : ℕ) (middle : List ℕ) (sum : header ≡ 12 + length middle
         let room : at + header + n ≤ length p = omega (arith, g .within, le-aligned (header + wireSize n)) in
         let size : length text ≡ n = length-part p (at + header) n room in (
           fields-stand p at end inside text bytes mid (part-stands p (at + header) n room) (rw size g),
-          text-ok text (g .checked),
+          text-ok p (at + header) n (g .checked),
           size,
           ap (λ (k : ℕ). at + k) (sym (length-entry text ∙ ap (λ (k : ℕ). aligned (header + wireSize k)) size)),
         )
@@ -145,5 +144,5 @@ module _ (header : ℕ) (middle : List ℕ) (sum : header ≡ 12 + length middle
         × (afterEntry header at (length text) ≡ at + length (entryBytes header middle text))
     stands-entry small text ok within s =
         let size = length-entry text in
-        let (g, mid, this) = stands-fields p at end inside text small (ok-text text ok) (omega arith) s in
+        let (g, mid, this) = stands-fields p at end inside text small ok (omega arith) s in
         (entry-found header p at end (length text) g, mid, ap (λ (k : ℕ). at + k) (sym size))

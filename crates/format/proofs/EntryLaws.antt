@@ -12,9 +12,9 @@ use Rattle.wire.specs.Number.{byteAt, u32At}
 use Rattle.wire.specs.Padding.{padding, aligned, allZero}
 use Rattle.wire.proofs.PaddingLaws.{aligned-by-arithmetic, le-aligned}
 use Rattle.layout.specs.Checked.{good}
-use Rattle.layout.specs.declared.row.Row.{Row}
+use Rattle.table.specs.declared.row.Row.{Row}
 use Rattle.layout.specs.TextCheck.{checkText}
-use Rattle.layout.specs.Texts.{part}
+use Rattle.layout.specs.Spans.{part}
 use Rattle.layout.proofs.Checked.{check-good, then-good, check-passes, then-passes}
 use Rattle.format.specs.Parse.{terminatedText, entry, afterEntry, entries}
 
@@ -28,7 +28,7 @@ pub record Entry (header : ℕ) (p : List ℕ) (at end n : ℕ) : Type 0 where
   pub text : u32At p (at + 8) ≡ wireSize n
   pub size : u32At p at ≡ aligned (header + wireSize n)
   -- its text passes the check, and has a NUL and zeros after it
-  pub checked : checkText (part p (at + header) n) ≡ good tt
+  pub checked : checkText p (at + header) n ≡ good tt
   pub closed : byteAt p (at + header + n) ≡ 0
   pub padded : allZero (part p (at + header + wireSize n) (padding (header + wireSize n))) ≡ true
 

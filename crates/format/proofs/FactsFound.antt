@@ -1,28 +1,27 @@
 -- The public facts of an encoding, taken from its bytes, are those of its sections.
 -- Assumes nothing.
 use Prim.Native.Nat.{ℕ, zero, suc, _+_, _-_, _≤_}
-use mathlib.Core.Bool.{true, and-eq-true-iff}
+use mathlib.Core.Bool.{true}
 use mathlib.Core.List.{List, [], _∷_, _++_, map, flatMap}
 use mathlib.Core.Path.{_≡_, refl, ap, ap₂, _∙_}
 use native.Mathlib.Omega.{arith}
 use lib.ListN.{length, length-append}
-use Rattle.wire.specs.Number.{u32At}
-use Rattle.wire.specs.Padding.{aligned}
+use Rattle.wire.specs.Number.{u16At, u32At}
 use Rattle.wire.proofs.PaddingLaws.{le-aligned}
-use Rattle.layout.specs.Texts.{part}
-use Rattle.format.specs.Encoding.{u32, limit, terminate, nameEntry, pairEntry, storedBytes, kindOf, encodeSection, encode, allFit, fits}
-use Rattle.format.specs.PublicFacts.{namesAt, textAt, pairsAt, factAt, factsFrom, publicFacts}
+use Rattle.layout.specs.Spans.{part}
+use Rattle.format.specs.Encoding.{u32, limit, terminate, nameEntry, pairEntry, storedBytes, kindOf, encode, withinLimits}
+use Rattle.format.specs.Parse.{kindAt}
+use Rattle.format.specs.PublicFacts.{Fact, namesAt, textAt, pairsAt, factAt, factsFrom, publicFacts}
 use Rattle.format.specs.Sections.{Name, Pair, Section, plain, packed, names, arguments, unknown}
+use Rattle.format.specs.Walk.{placesFrom, places}
 use Rattle.format.specs.WellFormed.{All, Text, NameOk, PairOk, WellFormed}
 use Rattle.format.proofs.EntryBytes.{name-is, name-header, stands-fields}
-use Rattle.format.proofs.Encoding.{fits-good, length-encode, length-nameEntry, length-pairEntry}
+use Rattle.format.proofs.Encoding.{length-nameEntry, length-pairEntry}
 use Rattle.format.proofs.FactsOf.{factOf, factsOf}
 use Rattle.format.proofs.PairBytes.{nul-found}
-use Rattle.format.proofs.PayloadRead.{main-header}
-use Rattle.format.proofs.SectionBytes.{filled, length-section, SectionAt, stands-section}
-use Rattle.format.proofs.SectionFields.{Fields, section-fields, known-kind}
+use Rattle.format.proofs.SectionBytes.{filled, length-section}
+use Rattle.format.proofs.SectionsFound.{Here, paired-flatMap, encoded-here}
 use Rattle.format.proofs.Stands.{Stands, stands-first, stands-next, stands-part}
-use Rattle.format.proofs.TextsOk.{ok-text}
 
 module _ (p : List ℕ) (small : length p ≤ limit) where
   -- ---- the names and the pairs of a section
@@ -37,7 +36,7 @@ module _ (p : List ℕ) (small : length p ≤ limit) where
   name-found at x ok room s =
       let size : ℕ = x .contentSize in
       let spans = length-nameEntry x in
-      let (g, middle, this) = stands-fields 16 (u32 size) (name-header size) p at (length p) (omega arith) (x .text) small (ok-text (x .text) (ok .text)) (omega arith) (rw name-is at s) in
+      let (g, middle, this) = stands-fields 16 (u32 size) (name-header size) p at (length p) (omega arith) (x .text) small (ok .text) (omega arith) (rw name-is at s) in
       let long : u32At p (at + 8) - 1 ≡ length (x .text) = omega (arith, g .text) in
       (ap (λ (k : ℕ). part p (at + 16) k) long ∙ stands-part p (at + 16) (x .text) this, omega (arith, g .size))
 
@@ -80,52 +79,30 @@ module _ (p : List ℕ) (small : length p ≤ limit) where
       let rest = pairs-found xs next oks (stands-next p at (name ++ value) (flatMap pairEntry xs) next after s) in
       rw (first, second, rest)
 
-  -- ---- the facts of sections
+-- ---- the facts of sections
 
-  unknown-fact : (kind at : ℕ) → 3 ≤ kind → factAt p kind at ≡ []
-  unfolding factAt
-  unknown-fact zero at h = absurd (omega arith)
-  unknown-fact (suc zero) at h = absurd (omega arith)
-  unknown-fact (suc (suc zero)) at h = absurd (omega arith)
-  unknown-fact (suc (suc (suc n))) at h = refl
+fact-found : (p : List ℕ) (at : ℕ) (s : Section) → Here p at s → factAt p (kindAt p at) at ≡ factOf s
+unfolding factAt factOf kindOf storedBytes
+fact-found p at s h = rw (h .kind) (go s h)
+  where
+    go : (s : Section) → Here p at s → factAt p (kindOf s) at ≡ factOf s
+    go (plain header texts) h = let (field, flags, compression, bytes, equal, count) = h .fields in rw (compression, count)
+    go (packed header stream many uncompressed) h = let (field, flags, compression, bytes, size, count) = h .fields in rw (compression, count)
+    go (names ns) h =
+        let (flags, count, bytes) = h .fields in
+        let room : at + 18 + length (flatMap nameEntry ns) ≤ length p = omega (arith, h .within, length-section (names ns), le-aligned (filled (names ns))) in
+        rw (count, names-found p (h .small) ns (at + 18) (h .ok) room (h .parts .stored))
+    go (arguments xs) h = let (flags, bytes, count) = h .fields in rw (count, pairs-found p (h .small) xs (at + 20) (h .ok) (h .parts .stored))
+    go (unknown kind bytes) h = refl
 
-  fact-found :
-      (at : ℕ) (s : Section) →
-      WellFormed s →
-      at + aligned (filled s) ≤ length p →
-      SectionAt p at s →
-      Fields p at s →
-      factAt p (kindOf s) at ≡ factOf s
-  unfolding factAt factOf kindOf storedBytes
-  fact-found at (plain header texts) ok inside g (field, flags, compression, bytes, equal, count) = rw (compression, count)
-  fact-found at (packed header stream many uncompressed) ok inside g (field, flags, compression, bytes, size, count) = rw (compression, count)
-  fact-found at (names ns) ok inside g (flags, count, bytes) =
-      rw (count, names-found ns (at + 18) ok (omega (arith, le-aligned (filled (names ns)))) (g .stored))
-  fact-found at (arguments xs) ok inside g (flags, bytes, count) = rw (count, pairs-found xs (at + 20) ok (g .stored))
-  fact-found at (unknown kind bytes) ok inside g fields = unknown-fact kind at (ok .0)
+-- the walk that takes the facts is the one over the places of sections
+facts-walk : (p : List ℕ) (count at : ℕ) → factsFrom p count at ≡ flatMap (λ (at : ℕ). factAt p (kindAt p at) at) (placesFrom p count at)
+unfolding factsFrom placesFrom flatMap
+facts-walk p zero at = refl
+facts-walk p (suc count) at = ap (λ (l : List Fact). factAt p (kindAt p at) at ++ l) (facts-walk p count (at + u32At p at))
 
-  pub facts-found :
-      (ss : List Section) (at : ℕ) →
-      All WellFormed ss →
-      allFit ss ≡ true →
-      at + length (flatMap encodeSection ss) ≤ length p →
-      Stands p at (flatMap encodeSection ss) →
-      factsFrom p (length ss) at ≡ factsOf ss
-  unfolding factsFrom factsOf flatMap allFit
-  facts-found [] at ok fit within stand = refl
-  facts-found (s ∷ ss) at (ok, oks) fit within stand =
-      let (this, others) = simp and-eq-true-iff at fit in
-      let spans : length (encodeSection s) ≡ aligned (filled s) = length-section s in
-      let sum = length-append (encodeSection s) (flatMap encodeSection ss) in
-      let inside : at + aligned (filled s) ≤ length p = omega arith in
-      let g = stands-section p at s inside small (known-kind s ok) (stands-first p at (encodeSection s) (flatMap encodeSection ss) stand) in
-      let next : ℕ = at + aligned (filled s) in
-      let rest = facts-found ss next oks others (omega arith) (stands-next p at (encodeSection s) (flatMap encodeSection ss) next (omega arith) stand) in
-      rw (g .kind, g .size, fact-found at s ok inside g (section-fields p small at s ok this inside (g .header)), rest)
-
-pub public-facts : (ss : List Section) → All WellFormed ss → fits ss ≡ true → publicFacts (encode ss) ≡ factsOf ss
-unfolding publicFacts
+pub public-facts : (ss : List Section) → All WellFormed ss → withinLimits ss ≡ true → publicFacts (encode ss) ≡ factsOf ss
+unfolding publicFacts places factsOf
 public-facts ss ok fit =
-    let (few, all-fit, small) = fits-good ss fit in
-    let (long, flags, many, stand) = main-header ss fit in
-    rw many (facts-found (encode ss) small ss 8 ok all-fit (omega (arith, length-encode ss)) stand)
+    let p : List ℕ = encode ss in
+    facts-walk p (u16At p 6) 8 ∙ paired-flatMap (Here p) _ factOf (fact-found p) (places p) ss (encoded-here ss ok fit)

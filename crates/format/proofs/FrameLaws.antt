@@ -11,7 +11,7 @@ use Rattle.wire.specs.Number.{u16At, u32At}
 use Rattle.wire.specs.Padding.{padding, aligned, allZero}
 use Rattle.wire.proofs.PaddingLaws.{le-aligned}
 use Rattle.layout.specs.Checked.{good}
-use Rattle.layout.specs.Texts.{part}
+use Rattle.layout.specs.Spans.{part}
 use Rattle.layout.proofs.Checked.{check-good, check-passes}
 use Rattle.format.specs.Parse.{frame, framed}
 

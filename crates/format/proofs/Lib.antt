@@ -12,8 +12,10 @@ pub mod RowCount
 pub mod RowsPlaced
 pub mod Walking
 pub mod WalkLaws
+pub mod Storing
 -- Encoding and output
 pub mod Encoding
+pub mod EncodedBytes
 pub mod Output
 pub mod MainHeader
 -- What stands at a place: from reading to bytes, and from bytes to reading
@@ -37,9 +39,13 @@ pub mod RowsSay
 pub mod RowsStand
 pub mod Encoded
 -- The promises
+pub mod RowsInOrder
 pub mod Promises
 pub mod RoundTrips
+pub mod SaidSections
 pub mod Renaming
+-- The walk over sections
+pub mod SectionsFound
 -- The public copy, and what a holder of it can learn
 pub mod FactsOf
 pub mod PublicRows
@@ -47,11 +53,12 @@ pub mod FactsFound
 pub mod PublicSections
 pub mod Secrecy
 pub mod Card
+pub mod RefusedCalls
 -- The listing and the public copy, by walks
 pub mod DecimalLaws
 pub mod LinesFound
 pub mod PrintLaws
-pub mod KnownLaws
 pub mod CopyFound
 pub mod CardFound
+pub mod Measured
 pub mod Samples

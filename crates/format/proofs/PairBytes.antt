@@ -4,25 +4,25 @@ use Prim.Native.Nat.{ℕ, _+_, _-_, _≤_, _<_}
 use mathlib.Core.List.{List, [], _∷_, append-assoc}
 use mathlib.Core.Path.{_≡_, sym, ap, _∙_}
 use native.Mathlib.Omega.{arith}
-use borrow.Author.Tests.{le-ltb, ltb-false}
+use borrow.Author.Tests.{ltb-false}
 use lib.ListN.{length, drop, length-append, length-drop}
 use lib.Seq.{getD-drop}
 use Rattle.wire.specs.Length.{wireSize}
 use Rattle.wire.specs.Nul.{untilNul}
-use Rattle.wire.proofs.NulLaws.{until-at, until-take, until-closed, until-prefix}
-use Rattle.utf8.specs.Rfc3629.{wellFormed}
+use Rattle.wire.proofs.NulLaws.{until-at, until-closed, until-prefix}
 use Rattle.layout.specs.Checked.{Checked, good}
-use Rattle.layout.specs.Rows.{row}
-use Rattle.layout.specs.Texts.{part}
-use Rattle.layout.specs.declared.row.Row.{Row}
+use Rattle.layout.specs.Spans.{span, part}
+use Rattle.table.specs.Rows.{pairRow}
+use Rattle.table.specs.declared.row.Row.{Row}
 use Rattle.layout.proofs.Checked.{then-good}
 use Rattle.format.specs.Encoding.{terminate, pairEntry}
 use Rattle.format.specs.Parse.{pairText, pair}
 use Rattle.format.specs.Sections.{Pair}
 use Rattle.format.specs.WellFormed.{Text, PairOk}
 use Rattle.format.proofs.Encoding.{length-pairEntry}
-use Rattle.format.proofs.PairLaws.{run, length-run, text-well-formed, pairText-good, pair-found}
-use Rattle.format.proofs.PlacedRows.{pairAt}
+use Rattle.format.proofs.PairLaws.{run, length-run, text-passed, pairText-good, pair-found}
+use Rattle.format.proofs.PlacedRows.{pairPlaced}
+use Rattle.format.proofs.TextsOk.{text-ok, ok-text}
 use Rattle.format.proofs.Stands.{Stands, stands-first, stands-next, stands-join, part-stands, stands-part, length-part, nul-stands}
 
 -- ---- a text
@@ -36,15 +36,14 @@ nul-found p at text ok s =
 module _ (p : List ℕ) (at end : ℕ) (inside : end ≤ length p) where
   pub text-stands : (n : ℕ) → pairText p at end ≡ good n → Stands p at (terminate (part p at n)) × Text (part p at n)
   text-stands n e =
-      let (within, until, utf8) = pairText-good p at end n e in
+      let (within, until, passed) = pairText-good p at end n e in
       let room : at + n ≤ length p = omega arith in
       let size : length (part p at n) ≡ n = length-part p at n room in
       let there : untilNul (drop at p) < length (drop at p) = omega (arith, length-drop at p) in
       let nul = sym (getD-drop at p (untilNul (drop at p)) 0) ∙ until-at (drop at p) there in
-      let closes : Stands p (at + n) (0 ∷ []) = nul-stands p (at + n) (omega arith) (rw until nul) in
-      let none : untilNul (part p at n) ≡ length (part p at n) = until-take (drop at p) n (omega (arith, until)) in (
+      let closes : Stands p (at + n) (0 ∷ []) = nul-stands p (at + n) (omega arith) (rw until nul) in (
         stands-join p at (part p at n) (0 ∷ []) (at + n) (omega (arith, size)) (part-stands p at n room) closes,
-        record { utf8 = utf8; closed = le-ltb (untilNul (part p at n)) (length (part p at n)) (omega (arith, none)) },
+        text-ok p at n passed,
       )
 
   pub stands-text : (text : List ℕ) → Text text → at + wireSize (length text) ≤ end → Stands p at (terminate text) → pairText p at end ≡ good (length text)
@@ -52,13 +51,13 @@ module _ (p : List ℕ) (at end : ℕ) (inside : end ≤ length p) where
       let whole = nul-found p at text ok s in
       let found : untilNul (run p at end) ≡ length text = until-prefix (drop at p) (end - at) (omega (arith, whole)) ∙ whole in
       let this : part p at (length text) ≡ text = stands-part p at text (stands-first p at text (0 ∷ []) s) in
-      text-well-formed p at end (omega (arith, found, length-run p at end inside)) (ap (λ (k : ℕ). wellFormed (part p at k)) found ∙ ap wellFormed this ∙ ok .utf8) ∙
+      text-passed p at end (omega (arith, found, length-run p at end inside)) (ok-text p at _ text (ap (λ (k : ℕ). part p at k) found ∙ this) ok) ∙
       ap {B = Checked ℕ} (λ (k : ℕ). good k) found
 
 -- ---- a pair
 
 module _ (p : List ℕ) (at end : ℕ) (inside : end ≤ length p) where
-  pub pair-stands : (r : Row) → pair p at end ≡ good r → (x : Pair) × Stands p at (pairEntry x) × PairOk x × (r ≡ pairAt at x)
+  pub pair-stands : (r : Row) → pair p at end ≡ good r → (x : Pair) × Stands p at (pairEntry x) × PairOk x × (r ≡ pairPlaced at x)
   unfolding pair pairEntry
   pair-stands r e =
       let (n, name-good, after) = then-good _ _ _ e in
@@ -71,14 +70,14 @@ module _ (p : List ℕ) (at end : ℕ) (inside : end ≤ length p) where
       let (name, name-ok) = text-stands p at end inside n name-good in
       let (value, value-ok) = text-stands p next end inside v value-good in
       let there : next ≡ at + length (terminate (part p at n)) = omega (arith, length-append (part p at n) (0 ∷ []), name-size) in
-      let same : row 7 0 at n next v 0 ≡ r = cc in (
+      let same : pairRow (span 0 at n) (span 0 next v) ≡ r = cc in (
         record { name = part p at n; value = part p next v },
         stands-join p at (terminate (part p at n)) (terminate (part p next v)) next there name value,
         record { name = name-ok; value = value-ok },
         sym same ∙ rw (name-size, value-size),
       )
 
-  pub stands-pair : (x : Pair) → PairOk x → at + length (pairEntry x) ≤ end → Stands p at (pairEntry x) → pair p at end ≡ good (pairAt at x)
+  pub stands-pair : (x : Pair) → PairOk x → at + length (pairEntry x) ≤ end → Stands p at (pairEntry x) → pair p at end ≡ good (pairPlaced at x)
   unfolding pairEntry
   stands-pair x ok within s =
       let name : List ℕ = x .name in

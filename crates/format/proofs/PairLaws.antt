@@ -3,25 +3,27 @@
 use Prim.Native.Nat.{ℕ, zero, suc, _+_, _-_, _*_, _≤_, _<_}
 use mathlib.Core.Bool.{true, false}
 use mathlib.Core.List.{List, [], _∷_}
-use mathlib.Core.Path.{_≡_, sym, ap, _∙_}
+use mathlib.Core.Path.{_≡_, refl, sym, ap, _∙_}
 use native.Mathlib.Omega.{arith}
 use borrow.Author.Tests.{lt-ltb, le-ltb, ltb-true, eqb-true}
 use lib.ListN.{length, getD, drop, length-take, length-drop}
 use lib.Seq.{getD-take, getD-drop}
 use Rattle.wire.specs.Length.{wireSize}
 use Rattle.wire.specs.Nul.{untilNul}
-use Rattle.wire.proofs.NulLaws.{until-prefix, until-in-prefix, until-nul, until-run}
+use Rattle.wire.proofs.NulLaws.{until-take, until-prefix, until-in-prefix, until-nul, until-run}
 use Rattle.utf8.specs.Rfc3629.{wellFormed}
 use Rattle.utf8.proofs.Laws.{ascii-well-formed}
 use Rattle.layout.specs.Checked.{Checked, fault, good, check, then}
-use Rattle.layout.specs.Rows.{row}
-use Rattle.layout.specs.Texts.{part}
+use Rattle.layout.specs.Spans.{span, part}
+use Rattle.layout.specs.TextCheck.{checkText}
+use Rattle.table.specs.Rows.{pairRow}
 use Rattle.layout.specs.declared.refusal.Refusal.{Refusal}
 use Rattle.layout.specs.declared.refusal.Refusal.the-variants.{OpenText, NotUtf8}
-use Rattle.layout.specs.declared.row.Row.{Row}
-use Rattle.layout.proofs.Checked.{check-good, then-good}
+use Rattle.table.specs.declared.row.Row.{Row}
+use Rattle.layout.proofs.Checked.{check-good, then-good, after-fault, after-good}
+use Rattle.layout.proofs.TextCheck.{check-not-utf8, check-passed}
 use Rattle.format.specs.Parse.{pairText, pair, afterPair, pairs}
-use Rattle.format.specs.Walk.{pairRow}
+use Rattle.format.specs.Walk.{pairAt}
 
 -- the bytes from a place up to an end
 abbrev pub run : List ℕ → ℕ → ℕ → List ℕ
@@ -38,13 +40,23 @@ module _ (p : List ℕ) (at end : ℕ) where
   text-open h = rw (le-ltb (untilNul (run p at end)) (length (run p at end)) h)
 
   module _ (h : untilNul (run p at end) < length (run p at end)) where
-    pub text-ill-formed : wellFormed (part p at (untilNul (run p at end))) ≡ false → pairText p at end ≡ fault NotUtf8
-    unfolding pairText check
-    text-ill-formed e = rw (lt-ltb (untilNul (run p at end)) (length (run p at end)) h, e)
+    abbrev n : ℕ
+    n = untilNul (run p at end)
 
-    pub text-well-formed : wellFormed (part p at (untilNul (run p at end))) ≡ true → pairText p at end ≡ good (untilNul (run p at end))
+    -- no NUL stands before the first
+    no-nul : length (part p at n) ≤ untilNul (part p at n)
+    no-nul = omega (arith, until-take (drop at p) n (omega (arith, until-in-prefix (drop at p) (end - at) h)))
+
+    pub text-ill-formed : wellFormed (part p at n) ≡ false → pairText p at end ≡ fault NotUtf8
     unfolding pairText check
-    text-well-formed e = rw (lt-ltb (untilNul (run p at end)) (length (run p at end)) h, e)
+    text-ill-formed e = rw (lt-ltb (untilNul (run p at end)) (length (run p at end)) h) (after-fault _ _ (check-not-utf8 p at n _ refl e))
+
+    pub text-passed : checkText p at n ≡ good tt → pairText p at end ≡ good n
+    unfolding pairText check
+    text-passed e = rw (lt-ltb (untilNul (run p at end)) (length (run p at end)) h) (after-good _ _ e)
+
+    pub text-well-formed : wellFormed (part p at n) ≡ true → pairText p at end ≡ good n
+    text-well-formed e = text-passed (check-passed p at n _ refl e no-nul)
 
   -- bytes of ASCII that are no NUL, from the place up to `stop`, and a NUL there: a text
   pub text-plain :
@@ -69,18 +81,17 @@ module _ (p : List ℕ) (at end : ℕ) where
       text-well-formed (omega (arith, length-run p at end m)) (ap (λ (k : ℕ). wellFormed (part p at k)) found ∙ ascii-well-formed (part p at n) ascii) ∙
       ap {B = Checked ℕ} (λ (k : ℕ). good k) found
 
-  -- a good text is well formed, and ends before `end`, at the first NUL of all the bytes from its place on
-  pub pairText-good : (n : ℕ) → pairText p at end ≡ good n → (at + wireSize n ≤ end) × (n ≡ untilNul (drop at p)) × (wellFormed (part p at n) ≡ true)
+  -- a good text passes the check, and ends before `end`, at the first NUL of all the bytes from its place on
+  pub pairText-good : (n : ℕ) → pairText p at end ≡ good n → (at + wireSize n ≤ end) × (n ≡ untilNul (drop at p)) × (checkText p at n ≡ good tt)
   unfolding pairText
   pairText-good n e =
       let ended = check-good _ _ _ _ e in
-      let told = check-good _ _ _ _ (ended .1) in
-      let found = told .1 in
+      let (done, passed, found) = then-good _ _ _ (ended .1) in
       let same : untilNul (run p at end) ≡ n = cc in
       let inside : untilNul (run p at end) < length (run p at end) = ltb-true _ _ (ended .0) in (
         omega (arith, length-take (end - at) (drop at p)),
         sym same ∙ until-in-prefix (drop at p) (end - at) inside,
-        rw (← same) (told .0),
+        rw (← same) passed,
       )
 
   -- ---- a pair
@@ -94,17 +105,17 @@ module _ (p : List ℕ) (at end : ℕ) where
     unfolding pair then
     pair-no-value f = rw (e, f)
 
-    pub pair-found : (value : ℕ) → pairText p (at + wireSize name) end ≡ good value → pair p at end ≡ good (row 7 0 at name (at + wireSize name) value 0)
+    pub pair-found : (value : ℕ) → pairText p (at + wireSize name) end ≡ good value → pair p at end ≡ good (pairRow (span 0 at name) (span 0 (at + wireSize name) value))
     unfolding pair then
     pair-found value f = rw (e, f)
 
 -- a good pair has a NUL after each of its texts, both before `end`, and is the one that the walk finds
-pub pair-good : (p : List ℕ) (at end : ℕ) (r : Row) → pair p at end ≡ good r → (at + 2 ≤ afterPair r) × (afterPair r ≤ end) × (r ≡ pairRow p at)
+pub pair-good : (p : List ℕ) (at end : ℕ) (r : Row) → pair p at end ≡ good r → (at + 2 ≤ afterPair r) × (afterPair r ≤ end) × (r ≡ pairAt p at)
 unfolding pair
 pair-good p at end r e =
     let (n, name-found, after) = then-good _ _ _ e in
     let (v, value-found, found) = then-good _ _ _ after in
-    let same : row 7 0 at n (at + wireSize n) v 0 ≡ r = cc in
+    let same : pairRow (span 0 at n) (span 0 (at + wireSize n) v) ≡ r = cc in
     let name = pairText-good p at end n name-found in
     let value = pairText-good p (at + wireSize n) end v value-found in (
       omega (arith, ap afterPair same),

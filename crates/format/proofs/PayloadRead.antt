@@ -11,12 +11,12 @@ use Rattle.wire.specs.Number.{u16At, u32At}
 use Rattle.wire.specs.Padding.{aligned}
 use Rattle.layout.specs.Checked.{good}
 use Rattle.layout.proofs.Checked.{check-passes, then-passes}
-use Rattle.format.specs.Encoding.{u16, u32, limit, encodeSection, encode, allFit, fits}
-use Rattle.format.specs.Parse.{sections, parse}
+use Rattle.format.specs.Encoding.{u16, u32, limit, encodeSection, encode, allCountable, withinLimits}
+use Rattle.format.specs.Parse.{parseSections, parse}
 use Rattle.format.specs.Sections.{Section}
 use Rattle.format.specs.WellFormed.{All, WellFormed}
 use Rattle.format.proofs.BodiesRead.{read-section}
-use Rattle.format.proofs.Encoding.{fits-good, length-encode, encode-multiple, encode-least}
+use Rattle.format.proofs.Encoding.{limits-good, length-encode, encode-multiple, encode-least}
 use Rattle.format.proofs.FrameLaws.{frame-found}
 use Rattle.format.proofs.PlacedRows.{rowsFrom}
 use Rattle.format.proofs.SectionBytes.{filled, length-section}
@@ -27,11 +27,11 @@ read-sections :
     length p ≤ limit →
     (ss : List Section) (at : ℕ) →
     All WellFormed ss →
-    allFit ss ≡ true →
+    allCountable ss ≡ true →
     at + length (flatMap encodeSection ss) ≡ length p →
     Stands p at (flatMap encodeSection ss) →
-    sections (length ss) p at ≡ good (rowsFrom at ss)
-unfolding sections flatMap rowsFrom allFit
+    parseSections (length ss) p at ≡ good (rowsFrom at ss)
+unfolding parseSections flatMap rowsFrom allCountable
 read-sections p small [] at ok fit ends stand = check-passes _ _ _ (eq-eqb at (length p) (omega arith)) refl
 read-sections p small (s ∷ ss) at (ok, oks) fit ends stand =
     let (this, others) = simp and-eq-true-iff at fit in
@@ -45,11 +45,11 @@ read-sections p small (s ∷ ss) at (ok, oks) fit ends stand =
 -- the numbers of the main header, and the sections after it
 pub main-header :
     (ss : List Section) →
-    fits ss ≡ true →
+    withinLimits ss ≡ true →
     (let p : List ℕ = encode ss in
     (u32At p 0 ≡ length p) × (u16At p 4 ≡ 0) × (u16At p 6 ≡ length ss) × Stands p 8 (flatMap encodeSection ss))
 main-header ss fit =
-    let (few, all-fit, small) = fits-good ss fit in
+    let (few, all-fit, small) = limits-good ss fit in
     let p : List ℕ = encode ss in
     let size = length-encode ss in
     let bytes : List ℕ = flatMap encodeSection ss in
@@ -59,10 +59,10 @@ main-header ss fit =
     let (many, h₃) = stands-number p 2 6 8 (length ss) _ (omega arith) (omega (arith, few)) h₂ in
     (long ∙ sym size, flags, many, h₃)
 
-pub read-payload : (ss : List Section) → All WellFormed ss → fits ss ≡ true → parse (encode ss) ≡ good (rowsFrom 8 ss)
+pub read-payload : (ss : List Section) → All WellFormed ss → withinLimits ss ≡ true → parse (encode ss) ≡ good (rowsFrom 8 ss)
 unfolding parse
 read-payload ss ok fit =
-    let (few, all-fit, small) = fits-good ss fit in
+    let (few, all-fit, small) = limits-good ss fit in
     let (long, flags, many, stand) = main-header ss fit in
     let p : List ℕ = encode ss in
     check-passes _ _ _ (le-leb (length p) limit small)

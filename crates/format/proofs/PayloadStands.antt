@@ -8,13 +8,13 @@ use native.Mathlib.Omega.{arith}
 use lib.ListN.{length, length-append}
 use Rattle.wire.specs.Number.{u16At, u32At}
 use Rattle.layout.specs.Checked.{good}
-use Rattle.layout.specs.declared.row.Row.{Row}
-use Rattle.format.specs.Encoding.{limit, encodeSection, encode, allFit, fits}
-use Rattle.format.specs.Parse.{sections, parse}
+use Rattle.table.specs.declared.row.Row.{Row}
+use Rattle.format.specs.Encoding.{limit, encodeSection, encode, allCountable, withinLimits}
+use Rattle.format.specs.Parse.{parseSections, parse}
 use Rattle.format.specs.Sections.{Section}
 use Rattle.format.specs.WellFormed.{Bytes, All, WellFormed}
-use Rattle.format.proofs.BodiesStand.{body-stands}
-use Rattle.format.proofs.Encoding.{length-encode, fits-found}
+use Rattle.format.proofs.BodiesStand.{section-found}
+use Rattle.format.proofs.Encoding.{length-encode, limits-found}
 use Rattle.format.proofs.PlacedRows.{rowsFrom}
 use Rattle.format.proofs.SectionLaws.{sections-good, sections-end, parse-good}
 use Rattle.format.proofs.Stands.{Stands, stands-none, stands-join, stands-whole, number-below, number-stands}
@@ -26,18 +26,18 @@ pub record Sections (p : List ℕ) (at count : ℕ) (rs : List Row) : Type 0 whe
   pub many : length sections ≡ count
   pub ends : at + length (flatMap encodeSection sections) ≡ length p
   pub ok : All WellFormed sections
-  pub fit : allFit sections ≡ true
+  pub fit : allCountable sections ≡ true
   pub rows : rs ≡ rowsFrom at sections
 
-sections-stand : (p : List ℕ) → Bytes p → (count at : ℕ) (rs : List Row) → sections count p at ≡ good rs → Sections p at count rs
-unfolding flatMap rowsFrom allFit
+sections-stand : (p : List ℕ) → Bytes p → (count at : ℕ) (rs : List Row) → parseSections count p at ≡ good rs → Sections p at count rs
+unfolding flatMap rowsFrom allCountable
 sections-stand p bytes zero at rs e =
     let (ends, none) = sections-end p at rs e in
     record { sections = []; stand = stands-none p at; many = refl; ends = omega (arith, ends); ok = tt; fit = refl; rows = none }
 sections-stand p bytes (suc count) at rs e =
     let told = sections-good p at count rs e in
     let size : ℕ = u32At p at in
-    let first = body-stands p bytes at size (told .frame) (told .first) (told .first-good) in
+    let first = section-found p bytes at size (told .frame) (told .first) (told .first-good) in
     let rest = sections-stand p bytes count (at + size) (told .rest) (told .rest-good) in
     let s : Section = first .section in
     let ss : List Section = rest .sections in
@@ -60,7 +60,7 @@ pub record Payload (p : List ℕ) (rs : List Row) : Type 0 where
   pub stand : Stands p 8 (flatMap encodeSection sections)
   pub ends : 8 + length (flatMap encodeSection sections) ≡ length p
   pub ok : All WellFormed sections
-  pub fit : fits sections ≡ true
+  pub fit : withinLimits sections ≡ true
   pub is : encode sections ≡ p
   pub rows : rs ≡ rowsFrom 8 sections
 
@@ -84,7 +84,7 @@ payload-stands p bytes rs e =
       stand = all .stand;
       ends = all .ends;
       ok = all .ok;
-      fit = fits-found ss few (all .fit) (omega arith);
+      fit = limits-found ss few (all .fit) (omega arith);
       is = is;
       rows = all .rows;
     }

@@ -9,7 +9,7 @@ use native.Mathlib.Omega.{arith}
 use borrow.Author.Tests.{le-leb, lt-leb}
 use lib.Dec.{leb}
 use lib.ListN.{length, drop, length-append}
-use lib.Seq.{sets-eq}
+use lib.Seq.{sets, sets-eq}
 use Rattle.layout.specs.Checked.{Checked, fault, good}
 use Rattle.layout.specs.Refusals.{refusalNumber}
 use Rattle.layout.specs.declared.refusal.Refusal.{Refusal}
@@ -17,18 +17,18 @@ use Rattle.layout.specs.declared.refusal.Refusal.the-variants.{Oversize, Ragged
 use Rattle.layout.specs.declared.refusal.Answer.{Answer}
 use Rattle.layout.specs.declared.refusal.Answer.the-variants.{Accepted, Refused}
 use Rattle.format.specs.Display.{ascii, decimal}
-use Rattle.format.specs.Output.{answer, stored}
-use Rattle.format.specs.Print.{most, refusedLine, longerLine, told, toldLength, outcome, printed}
+use Rattle.format.specs.Output.{answer, outputAfter}
+use Rattle.format.specs.Print.{printLimit, refusedLine, longerLine, told, toldLength, outcome, printed}
 use Rattle.format.proofs.DecimalLaws.{decimal-short}
 
 module _ (job : List ℕ → Checked (List ℕ)) (input : List ℕ) where
-  pub printed-long : most < length input → printed job input ≡ longerLine
+  pub printed-long : printLimit < length input → printed job input ≡ longerLine
   unfolding printed
-  printed-long h = rw (lt-leb (length input) most h)
+  printed-long h = rw (lt-leb (length input) printLimit h)
 
-  pub printed-outcome : length input ≤ most → printed job input ≡ outcome (job input)
+  pub printed-outcome : length input ≤ printLimit → printed job input ≡ outcome (job input)
   unfolding printed
-  printed-outcome h = rw (le-leb (length input) most h)
+  printed-outcome h = rw (le-leb (length input) printLimit h)
 
 pub longer-short : length longerLine ≤ 27
 unfolding ascii
@@ -62,15 +62,15 @@ refused-short refusal =
     let number : ℕ = refusalNumber refusal in
     omega (arith, decimal-short 1 number (omega (arith, refusal-small refusal)), length-append (decimal number) (10 ∷ []))
 
-module _ (output : List ℕ) (whole : length output ≡ most) where
+module _ (output : List ℕ) (whole : length output ≡ printLimit) where
   -- an accepted outcome is stored, and printed
   pub outcome-accepted :
       (made : Checked (List ℕ)) (count : ℕ) →
       answer made (length output) ≡ Accepted count →
-      (count ≡ length (outcome made)) × (stored made output ≡ outcome made ++ drop (length (outcome made)) output)
-  unfolding answer stored outcome
+      (count ≡ length (outcome made)) × (outputAfter made output ≡ outcome made ++ drop (length (outcome made)) output)
+  unfolding answer outputAfter outcome
   outcome-accepted (fault refusal) count e = let z : _≡_ {A = ℕ} 0 1 = cc in absurd (omega arith)
-  outcome-accepted (good q) count e = rw whole (go (leb (length q) most) (rw whole at e))
+  outcome-accepted (good q) count e = rw whole (go (leb (length q) printLimit) (rw whole at e))
     where
       go :
           (fits : Bool) →
@@ -84,10 +84,10 @@ module _ (output : List ℕ) (whole : length output ≡ most) where
   pub outcome-refused :
       (made : Checked (List ℕ)) (refusal : Refusal) →
       answer made (length output) ≡ Refused refusal →
-      (stored made output ≡ output) × (outcome made ≡ refusedLine refusal)
-  unfolding answer stored outcome
+      (outputAfter made output ≡ output) × (outcome made ≡ refusedLine refusal)
+  unfolding answer outputAfter outcome
   outcome-refused (fault r) refusal e = let same : r ≡ refusal = cc in (refl, ap refusedLine same)
-  outcome-refused (good q) refusal e = rw whole (go (leb (length q) most) (rw whole at e))
+  outcome-refused (good q) refusal e = rw whole (go (leb (length q) printLimit) (rw whole at e))
     where
       go :
           (fits : Bool) →
@@ -100,15 +100,37 @@ module _ (output : List ℕ) (whole : length output ≡ most) where
   pub outcome-told :
       (made : Checked (List ℕ)) →
       (let a : Answer = answer made (length output) in
-      (toldLength a ≡ length (outcome made)) × (told a (stored made output) ≡ outcome made ++ drop (length (outcome made)) output))
+      (toldLength a ≡ length (outcome made)) × (told a (outputAfter made output) ≡ outcome made ++ drop (length (outcome made)) output))
   unfolding told toldLength
   outcome-told made = go (answer made (length output)) refl
     where
       go :
           (a : Answer) →
           answer made (length output) ≡ a →
-          (toldLength a ≡ length (outcome made)) × (told a (stored made output) ≡ outcome made ++ drop (length (outcome made)) output)
+          (toldLength a ≡ length (outcome made)) × (told a (outputAfter made output) ≡ outcome made ++ drop (length (outcome made)) output)
       go (Accepted count) e = outcome-accepted made count e
       go (Refused refusal) e =
           let (left, line) = outcome-refused made refusal e in
           rw (line, left) (refl, sets-eq (refusedLine refusal) output 0 (omega (arith, whole, refused-short refusal)) ∙ rw zero-add)
+
+-- ---- what is stored of it
+
+module _ (job : List ℕ → Checked (List ℕ)) (input output : List ℕ) (whole : length output ≡ printLimit) where
+  -- as many bytes as are printed, and these at the output's start
+  abbrev pub Printed : ℕ → List ℕ → Type 0
+  Printed size after = (size ≡ length (printed job input)) × (after ≡ printed job input ++ drop (length (printed job input)) output)
+
+  pub longer-printed : {size : ℕ} {after : List ℕ} → printLimit < length input → (size ≡ length longerLine) × (after ≡ sets output 0 longerLine) → Printed size after
+  longer-printed long (many, stored) =
+      rw (printed-long job input long) (many, stored ∙ sets-eq longerLine output 0 (omega (arith, longer-short)) ∙ rw zero-add)
+
+  -- by the call's answer and the output that it left
+  pub answer-printed :
+      {a : Answer} {left : List ℕ} {size : ℕ} {after : List ℕ} →
+      length input ≤ printLimit →
+      (a ≡ answer (job input) (length output)) × (left ≡ outputAfter (job input) output) →
+      (size ≡ toldLength a) × (after ≡ told a left) →
+      Printed size after
+  answer-printed short (answered, kept) (many, stored) =
+      let (long, is) = outcome-told output whole (job input) in
+      rw (printed-outcome job input short) (many ∙ rw answered long, stored ∙ rw (answered, kept) is)

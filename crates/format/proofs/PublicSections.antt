@@ -1,7 +1,7 @@
 -- The public sections of well-formed sections that fit are well formed and fit too; they have the same facts, and take no more bytes.
 -- Assumes nothing.
 use Prim.Native.Nat.{ℕ, zero, suc, _+_, _≤_}
-use mathlib.Core.Bool.{true, false, _&&_, and-eq-true-iff}
+use mathlib.Core.Bool.{true, _&&_, and-eq-true-iff}
 use mathlib.Core.List.{List, [], _∷_, _++_, map, flatMap, map-map}
 use mathlib.Core.Path.{_≡_, refl, ap, ap₂, _∙_}
 use native.Mathlib.Omega.{arith}
@@ -10,13 +10,12 @@ use lib.ListN.{length, replicate, length-append, length-replicate, length-map}
 use Rattle.wire.specs.Length.{wireSize}
 use Rattle.wire.specs.Padding.{aligned}
 use Rattle.wire.proofs.PaddingLaws.{aligned-multiple, le-aligned, aligned-least}
-use Rattle.format.specs.Encoding.{contentEntry, nameEntry, storedBytes, encodeSection, encode, entriesFit, allFit, fits}
-use Rattle.format.specs.PublicFacts.{Fact}
-use Rattle.format.specs.PublicFacts as fact
+use Rattle.format.specs.Encoding.{contentEntry, nameEntry, storedBytes, encodeSection, encode, countable, allCountable, withinLimits}
+use Rattle.format.specs.PublicFacts.{Fact, plainContents, packedContents, argumentPairs}
 use Rattle.format.specs.Secrecy.{sectionOf}
 use Rattle.format.specs.Sections.{Name, Section, plain, packed, names, arguments, unknown}
 use Rattle.format.specs.WellFormed.{All, Text, NameOk, WellFormed}
-use Rattle.format.proofs.Encoding.{length-contentEntry, length-nameEntry, length-encode, fits-good, fits-found}
+use Rattle.format.proofs.Encoding.{length-contentEntry, length-nameEntry, length-encode, limits-good, limits-found}
 use Rattle.format.proofs.FactsOf.{factOf, factsOf, publicSections}
 use Rattle.format.proofs.SectionBytes.{filled, length-section}
 use Rattle.format.proofs.TextsOk.{empty-text}
@@ -54,10 +53,10 @@ pub public-same : (ss : List Section) → factsOf (publicSections ss) ≡ factsO
 unfolding publicSections factsOf factOf sectionOf flatMap
 public-same [] = refl
 public-same (plain header texts ∷ ss) =
-    ap₂ (λ (n : ℕ) (l : List Fact). fact.contents n false ∷ l) (length-replicate (length texts) []) (public-same ss)
-public-same (packed header stream count uncompressed ∷ ss) = ap (λ (l : List Fact). fact.contents count true ∷ l) (public-same ss)
+    ap₂ (λ (n : ℕ) (l : List Fact). plainContents n ∷ l) (length-replicate (length texts) []) (public-same ss)
+public-same (packed header stream count uncompressed ∷ ss) = ap (λ (l : List Fact). packedContents count ∷ l) (public-same ss)
 public-same (names ns ∷ ss) = ap₂ (λ (l m : List Fact). l ++ m) (names-fact ns) (public-same ss)
-public-same (arguments xs ∷ ss) = ap (λ (l : List Fact). fact.arguments (length xs) xs ∷ l) (public-same ss)
+public-same (arguments xs ∷ ss) = ap (λ (l : List Fact). argumentPairs (length xs) xs ∷ l) (public-same ss)
 public-same (unknown kind bytes ∷ ss) = public-same ss
 
 pub public-again : (ss : List Section) → publicSections (publicSections ss) ≡ publicSections ss
@@ -115,8 +114,8 @@ public-fewer (names ns ∷ ss) = omega (arith, public-fewer ss)
 public-fewer (arguments xs ∷ ss) = omega (arith, public-fewer ss)
 public-fewer (unknown kind bytes ∷ ss) = omega (arith, public-fewer ss)
 
-public-fit : (ss : List Section) → allFit ss ≡ true → allFit (publicSections ss) ≡ true
-unfolding publicSections factsOf factOf sectionOf flatMap allFit entriesFit
+public-fit : (ss : List Section) → allCountable ss ≡ true → allCountable (publicSections ss) ≡ true
+unfolding publicSections factsOf factOf sectionOf flatMap allCountable countable
 public-fit [] fit = refl
 public-fit (plain header texts ∷ ss) fit = public-fit ss fit
 public-fit (packed header stream count uncompressed ∷ ss) fit = public-fit ss fit
@@ -126,7 +125,7 @@ public-fit (names ns ∷ ss) fit =
 public-fit (arguments xs ∷ ss) fit = public-fit ss fit
 public-fit (unknown kind bytes ∷ ss) fit = public-fit ss fit
 
-pub public-fits : (ss : List Section) → fits ss ≡ true → fits (publicSections ss) ≡ true
+pub public-fits : (ss : List Section) → withinLimits ss ≡ true → withinLimits (publicSections ss) ≡ true
 public-fits ss fit =
-    let (few, all-fit, small) = fits-good ss fit in
-    fits-found (publicSections ss) (omega (arith, public-fewer ss)) (public-fit ss all-fit) (omega (arith, public-shorter ss))
+    let (few, all-fit, small) = limits-good ss fit in
+    limits-found (publicSections ss) (omega (arith, public-fewer ss)) (public-fit ss all-fit) (omega (arith, public-shorter ss))

@@ -7,8 +7,13 @@ use native.Mathlib.Omega.{arith}
 use lib.ListN.{length, length-append}
 use Rattle.wire.specs.Number.{u16At, u32At}
 use Rattle.layout.specs.Checked.{good}
-use Rattle.layout.specs.declared.row.Row.{Row}
-use Rattle.format.specs.Parse.{nameRow, contentRow, arguments, names, stored, contents, body, sections, parse}
+use Rattle.layout.specs.Kinds.{checkedCompression}
+use Rattle.layout.specs.declared.compression.SourceCompression.{SourceCompression}
+use Rattle.layout.specs.declared.compression.SourceCompression.the-variants.{None, Zlib}
+use Rattle.layout.specs.declared.section_type.SourceInfoSectionType.{SourceInfoSectionType}
+use Rattle.layout.specs.declared.section_type.SourceInfoSectionType.the-variants.{SourceContents, SourceNames, Arguments, Unknown}
+use Rattle.table.specs.declared.row.Row.{Row}
+use Rattle.format.specs.Parse.{nameRowAt, contentRowAt, parseArguments, parseNames, parseStored, parseContents, parseSection, kindAt, parseSections, parse}
 use Rattle.format.proofs.EntryLaws.{entries-bound}
 use Rattle.format.proofs.PairLaws.{pairs-bound}
 use Rattle.format.proofs.SectionLaws.{contents-good, plain-good, names-good, arguments-good, sections-good, sections-end, parse-good}
@@ -18,43 +23,43 @@ rows-length : {found : List Row} (rs : List Row) → good found ≡ good rs → 
 rows-length {found} rs e = let same : found ≡ rs = cc in ap length same
 
 module _ (p : List ℕ) (at size : ℕ) (rs : List Row) where
-  contents-count : contents p at size ≡ good rs → 2 * length rs ≤ size
-  unfolding stored
-  contents-count e = let told = contents-good p at size rs e in go (u16At p (at + 14)) (told .0 .within) (told .1)
+  contents-count : parseContents p at size ≡ good rs → 2 * length rs ≤ size
+  unfolding parseStored
+  contents-count e = let told = contents-good p at size rs e in go (checkedCompression (u16At p (at + 14))) (told .0 .within) (told .1)
     where
-      go : (n : ℕ) → 28 + u32At p (at + 16) ≤ size → stored n p at (u32At p (at + 16)) ≡ good rs → 2 * length rs ≤ size
-      go zero h f =
+      go : (c : SourceCompression) → 28 + u32At p (at + 16) ≤ size → parseStored c p at ≡ good rs → 2 * length rs ≤ size
+      go None h f =
           let told = plain-good p at rs f in
-          omega (arith, entries-bound 12 p _ contentRow (u32At p (at + 24)) (at + 28) (told .rest) (told .found) .0, ap length (told .all))
-      go (suc n) h f = omega (arith, rows-length rs f)
+          omega (arith, entries-bound 12 p _ contentRowAt (u32At p (at + 24)) (at + 28) (told .rest) (told .found) .0, ap length (told .all))
+      go Zlib h f = omega (arith, rows-length rs f)
 
-  names-count : names p at size ≡ good rs → 2 * length rs ≤ size
+  names-count : parseNames p at size ≡ good rs → 2 * length rs ≤ size
   names-count e =
       let told = names-good p at size rs e in
       let h = told .1 in
-      omega (arith, told .0 .within, entries-bound 16 p _ (nameRow p) (u32At p (at + 12)) (at + 18) (h .rest) (h .found) .0, ap length (h .all))
+      omega (arith, told .0 .within, entries-bound 16 p _ (nameRowAt p) (u32At p (at + 12)) (at + 18) (h .rest) (h .found) .0, ap length (h .all))
 
-  arguments-count : arguments p at size ≡ good rs → 2 * length rs ≤ size
+  arguments-count : parseArguments p at size ≡ good rs → 2 * length rs ≤ size
   arguments-count e =
       let told = arguments-good p at size rs e in
       let h = told .1 in
       omega (arith, told .0 .within, pairs-bound p _ (u32At p (at + 16)) (at + 20) (h .rest) (h .found) .0, ap length (h .all))
 
-  pub body-count : (kind : ℕ) → 8 ≤ size → body kind p at size ≡ good rs → 2 * length rs ≤ size
-  unfolding body
-  body-count zero h e = contents-count e
-  body-count (suc zero) h e = names-count e
-  body-count (suc (suc zero)) h e = arguments-count e
-  body-count (suc (suc (suc n))) h e = omega (arith, rows-length rs e)
+  pub section-count : (kind : SourceInfoSectionType) → 8 ≤ size → parseSection kind p at size ≡ good rs → 2 * length rs ≤ size
+  unfolding parseSection
+  section-count SourceContents h e = contents-count e
+  section-count SourceNames h e = names-count e
+  section-count Arguments h e = arguments-count e
+  section-count (Unknown kind) h e = omega (arith, rows-length rs e)
 
-pub sections-count : (p : List ℕ) (count at : ℕ) (rs : List Row) → sections count p at ≡ good rs → at + 2 * length rs ≤ length p
+pub sections-count : (p : List ℕ) (count at : ℕ) (rs : List Row) → parseSections count p at ≡ good rs → at + 2 * length rs ≤ length p
 sections-count p zero at rs e = let told = sections-end p at rs e in omega (arith, told .0, ap length (told .1))
 sections-count p (suc count) at rs e =
     let told = sections-good p at count rs e in
     let both : length rs ≡ length (told .first) + length (told .rest) = ap length (told .all) ∙ length-append (told .first) (told .rest) in
     omega (
       arith,
-      body-count p at (u32At p at) (told .first) (u16At p (at + 6)) (told .header) (told .first-good),
+      section-count p at (u32At p at) (told .first) (kindAt p at) (told .header) (told .first-good),
       sections-count p count (at + u32At p at) (told .rest) (told .rest-good),
     )
 

@@ -8,7 +8,7 @@ use native.Mathlib.Omega.{arith}
 use borrow.Author.Tests.{eq-eqb, eqb-true}
 use lib.ListN.{length, length-append}
 use Rattle.layout.specs.Checked.{Checked, good}
-use Rattle.layout.specs.declared.row.Row.{Row}
+use Rattle.table.specs.declared.row.Row.{Row}
 use Rattle.layout.proofs.Checked.{check-good, then-good, check-passes, then-passes}
 use Rattle.format.specs.Parse.{entry, afterEntry, entries, pair, afterPair, pairs}
 use Rattle.format.specs.WellFormed.{All}

@@ -1,38 +1,36 @@
 -- The statements of specs/Secrecy.antt, each proved under its name. All rest on this: an accepted payload is the encoding of sections, its public
 -- copy that of its public sections, and its public facts are theirs.
 -- Assumes nothing.
-use Prim.Native.Nat.{ℕ, _<_}
+use Prim.Native.Nat.{ℕ}
 use mathlib.Core.Bool.{Bool, true, false, cond}
 use mathlib.Core.List.{List, [], _++_}
 use mathlib.Core.Path.{_≡_, refl, sym, ap, _∙_}
 use native.Mathlib.Omega.{arith}
-use borrow.Author.Tests.{leb-false}
 use lib.Dec.{leb}
 use lib.ListN.{length, drop}
 use Rattle.layout.specs.Checked.{Checked, good}
-use Rattle.layout.specs.declared.refusal.Refusal.{Refusal}
-use Rattle.layout.specs.declared.refusal.Refusal.the-variants.{NoRoom}
-use Rattle.layout.specs.declared.refusal.Answer.the-variants.{Accepted, Refused}
-use Rattle.format.specs.Encoding.{encode, fits}
-use Rattle.format.specs.Output.{answer, stored}
+use Rattle.format.specs.Encoding.{encode, withinLimits}
+use Rattle.format.specs.Output.{answer, outputAfter}
 use Rattle.format.specs.PublicCopy.{publicCopy, copyAnswer, copyOutput}
 use Rattle.format.specs.PublicFacts.{Fact, publicFacts}
 use Rattle.format.specs.Read.{accepted}
-use Rattle.format.specs.Secrecy.{AcceptedPayload, made, CopyOfFacts, EqualExactly, SameCall, CopyIsPublic, RefusedForRoom}
+use Rattle.format.specs.Secrecy.{AcceptedPayload, made, CopyOfFacts, EqualExactly, SameCall, CopyIsPublic, WrittenIsAccepted, RefusedForRoom}
 use Rattle.format.specs.Sections.{Section}
 use Rattle.format.specs.WellFormed.{All, WellFormed}
+use Rattle.format.proofs.EncodedBytes.{encoded-bytes}
 use Rattle.format.proofs.FactsFound.{public-facts}
 use Rattle.format.proofs.FactsOf.{factsOf, publicSections}
+use Rattle.format.proofs.Output.{for-room}
 use Rattle.format.proofs.PayloadRead.{read-payload}
 use Rattle.format.proofs.PublicRows.{public-copy-is}
 use Rattle.format.proofs.PublicSections.{public-ok, public-same, public-again, public-shorter, public-fits}
-use Rattle.format.proofs.RoundTrips.{accepted-is-encoded}
+use Rattle.format.proofs.RoundTrips.{accepted-is-encoded, reads-back}
 
 -- what is known of an accepted payload by its sections
 pub record Known (p : List ℕ) : Type 0 where
   pub sections : List Section
   pub ok : All WellFormed sections
-  pub fit : fits sections ≡ true
+  pub fit : withinLimits sections ≡ true
   pub is : encode sections ≡ p
   pub copy : publicCopy p ≡ good (encode (publicSections sections))
   pub facts : publicFacts p ≡ factsOf sections
@@ -65,11 +63,19 @@ copy-is-public p h =
     let fit = public-fits ss (all .fit) in (
       encode ts,
       all .copy,
-      rw (read-payload ts ok fit),
+      (encoded-bytes ts ok, rw (read-payload ts ok fit)),
       public-facts ts ok fit ∙ public-same ss ∙ sym (all .facts),
       public-copy-is ts ok (public-fits ts fit) fit ∙ ap {B = Checked (List ℕ)} (λ (l : List Section). good (encode l)) (public-again ss),
       omega (arith, public-shorter ss, ap length (all .is)),
     )
+
+pub written-is-accepted : WrittenIsAccepted
+unfolding accepted
+written-is-accepted payload edit q rows bytes bytes′ fit e =
+    let (whole, again, found, same) = reads-back payload edit q rows bytes bytes′ fit e in
+    let ok : AcceptedPayload q = (whole, rw found) in
+    let copy = copy-is-public q ok in
+    (ok, copy .0, copy .1)
 
 -- equal facts make equal copies
 same-copy : (p q : List ℕ) → AcceptedPayload p → AcceptedPayload q → publicFacts p ≡ publicFacts q → publicCopy p ≡ publicCopy q
@@ -94,9 +100,9 @@ placed bytes room = cond (leb (length bytes) room) bytes []
 pub stores :
     (made : Checked (List ℕ)) (bytes output : List ℕ) →
     made ≡ good bytes →
-    stored made output ≡ placed bytes (length output) ++ drop (length (placed bytes (length output))) output
-unfolding stored
-stores made bytes output e = ap (λ (c : Checked (List ℕ)). stored c output) e ∙ go (leb (length bytes) (length output))
+    outputAfter made output ≡ placed bytes (length output) ++ drop (length (placed bytes (length output))) output
+unfolding outputAfter
+stores made bytes output e = ap (λ (c : Checked (List ℕ)). outputAfter c output) e ∙ go (leb (length bytes) (length output))
   where
     go : (fits : Bool) → cond fits (bytes ++ drop (length bytes) output) output ≡ cond fits bytes [] ++ drop (length (cond fits bytes [])) output
     go true = refl
@@ -111,22 +117,6 @@ same-call p q h k e o₁ o₂ size =
       rw (same, size),
       (placed bytes (length o₁), stores (publicCopy p) bytes o₁ copy, rw size (stores (publicCopy q) bytes o₂ (sym same ∙ copy))),
     )
-
--- where bytes are made, only the room for them can be lacking
-for-room :
-    (bytes : List ℕ) (room : ℕ) (refusal : Refusal) →
-    answer (good bytes) room ≡ Refused refusal →
-    (refusal ≡ NoRoom (length bytes)) × (room < length bytes)
-unfolding answer
-for-room bytes room refusal e = go (leb (length bytes) room) refl e
-  where
-    go :
-        (fits : Bool) →
-        leb (length bytes) room ≡ fits →
-        cond fits (Accepted (length bytes)) (Refused (NoRoom (length bytes))) ≡ Refused refusal →
-        (refusal ≡ NoRoom (length bytes)) × (room < length bytes)
-    go true f g = let z : _≡_ {A = ℕ} 0 1 = cc in absurd (omega arith)
-    go false f g = (cc, leb-false (length bytes) room f)
 
 pub refused-for-room : RefusedForRoom
 unfolding copyAnswer

@@ -10,7 +10,8 @@ use Rattle.wire.specs.Number.{u16At, u32At}
 use Rattle.wire.specs.Padding.{padding, aligned, allZero}
 use Rattle.wire.proofs.NumberLaws.{length-bytesOf}
 use Rattle.wire.proofs.PaddingLaws.{le-aligned}
-use Rattle.layout.specs.Texts.{part}
+use Rattle.layout.specs.Kinds.{kindNumber}
+use Rattle.layout.specs.Spans.{part}
 use Rattle.format.specs.Encoding.{u16, u32, limit, storedBytes, bodyHeader, kindOf, encodeSection}
 use Rattle.format.specs.Sections.{Section}
 use Rattle.format.specs.WellFormed.{Bytes}
@@ -34,7 +35,7 @@ abbrev body : Section → List ℕ
 body s = bodyHeader s (length (storedBytes s)) ++ storedBytes s
 
 abbrev unpadded : Section → List ℕ
-unpadded s = u32 (aligned (8 + length (body s))) ++ (u16 0 ++ (u16 (kindOf s) ++ body s))
+unpadded s = u32 (aligned (8 + length (body s))) ++ (u16 0 ++ (u16 (kindNumber (kindOf s)) ++ body s))
 
 module _ (s : Section) where
   sum : 8 + length (body s) ≡ filled s
@@ -50,14 +51,14 @@ module _ (s : Section) where
       let header : List ℕ = bodyHeader s (length (storedBytes s)) in
       let s₁ = stands-after p 4 at (at + 4) _ _ refl (stands-first p at (unpadded s) (replicate (padding (length (unpadded s))) 0) st) in
       let s₂ = stands-after p 2 (at + 4) (at + 6) _ _ (omega arith) s₁ in
-      let s₃ = stands-after p 2 (at + 6) (at + 8) (kindOf s) (body s) (omega arith) s₂ in
+      let s₃ = stands-after p 2 (at + 6) (at + 8) (kindNumber (kindOf s)) (body s) (omega arith) s₂ in
       stands-next p (at + 8) header (storedBytes s) (at + start s) (omega (arith, length-bodyHeader s (length (storedBytes s)))) s₃
 
 -- what stands at the place of a section
 pub record SectionAt (p : List ℕ) (at : ℕ) (s : Section) : Type 0 where
   pub size : u32At p at ≡ aligned (filled s)
   pub flags : u16At p (at + 4) ≡ 0
-  pub kind : u16At p (at + 6) ≡ kindOf s
+  pub kind : u16At p (at + 6) ≡ kindNumber (kindOf s)
   pub header : Stands p (at + 8) (bodyHeader s (length (storedBytes s)))
   pub stored : Stands p (at + start s) (storedBytes s)
   pub zeros : allZero (part p (at + start s + length (storedBytes s)) (padding (filled s))) ≡ true
@@ -82,13 +83,13 @@ module _ (p : List ℕ) (at : ℕ) (s : Section) (within : at + aligned (filled 
       let zeros = zeros-stand p end (padding (filled s)) (unfold aligned in omega (arith, within)) (g .zeros) in
       stands-join p at (unpadded s) _ end (omega (arith, length-unpadded s)) fields (rw (length-unpadded s) zeros)
 
-  pub stands-section : length p ≤ limit → kindOf s < 65536 → Stands p at (encodeSection s) → SectionAt p at s
+  pub stands-section : length p ≤ limit → kindNumber (kindOf s) < 65536 → Stands p at (encodeSection s) → SectionAt p at s
   unfolding encodeSection
   stands-section small known st =
       let zeros = stands-next p at (unpadded s) _ end (omega (arith, length-unpadded s)) st in
       let (size, s₁) = stands-number p 4 at (at + 4) (aligned (8 + length (body s))) _ refl (rw (sum s) (omega arith)) (stands-first p at (unpadded s) _ st) in
       let (flags, s₂) = stands-number p 2 (at + 4) (at + 6) 0 _ (omega arith) (omega arith) s₁ in
-      let (kind, s₃) = stands-number p 2 (at + 6) (at + 8) (kindOf s) _ (omega arith) (omega arith) s₂ in
+      let (kind, s₃) = stands-number p 2 (at + 6) (at + 8) (kindNumber (kindOf s)) _ (omega arith) (omega arith) s₂ in
       let header : List ℕ = bodyHeader s (length (storedBytes s)) in
       record {
         size = size ∙ ap aligned (sum s);

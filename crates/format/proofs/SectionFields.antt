@@ -3,7 +3,7 @@
 use Prim.Native.Nat.{ℕ, _+_, _≤_, _<_}
 use mathlib.Core.Bool.{true}
 use mathlib.Core.List.{List, flatMap}
-use mathlib.Core.Path.{_≡_}
+use mathlib.Core.Path.{_≡_, refl, ap, _∙_}
 use native.Mathlib.Omega.{arith}
 use borrow.Author.Tests.{leb-true}
 use lib.ListN.{length}
@@ -11,12 +11,15 @@ use Rattle.wire.specs.Length.{wireSize}
 use Rattle.wire.specs.Number.{u16At, u32At}
 use Rattle.wire.specs.Padding.{aligned}
 use Rattle.wire.proofs.PaddingLaws.{le-aligned}
+use Rattle.layout.specs.Kinds.{sectionType, kindNumber}
+use Rattle.layout.proofs.Unknown.{sectionType-unknown}
 use Rattle.layout.proofs.Lists.{flatMap-least}
-use Rattle.format.specs.Encoding.{limit, contentEntry, nameEntry, pairEntry, storedBytes, bodyHeader, kindOf, entriesFit}
+use Rattle.format.specs.Encoding.{limit, contentEntry, nameEntry, pairEntry, storedBytes, bodyHeader, kindOf, countable}
+use Rattle.format.specs.Parse.{kindAt}
 use Rattle.format.specs.Sections.{Name, Pair, Section, plain, packed, names, arguments, unknown}
 use Rattle.format.specs.WellFormed.{WellFormed}
 use Rattle.format.proofs.Encoding.{length-contentEntry, length-nameEntry, length-pairEntry}
-use Rattle.format.proofs.SectionBytes.{filled}
+use Rattle.format.proofs.SectionBytes.{filled, SectionAt}
 use Rattle.format.proofs.Stands.{Stands, spells, stands-number}
 
 -- there are no more items than bytes of them
@@ -29,13 +32,25 @@ names-many = flatMap-least nameEntry (λ n. omega (arith, length-nameEntry n, le
 pairs-many : (xs : List Pair) → length xs ≤ length (flatMap pairEntry xs)
 pairs-many = flatMap-least pairEntry (λ x. omega (arith, length-pairEntry x))
 
-pub known-kind : (s : Section) → WellFormed s → kindOf s < 65536
+pub known-kind : (s : Section) → WellFormed s → kindNumber (kindOf s) < 65536
 unfolding kindOf
 known-kind (plain header texts) ok = omega arith
 known-kind (packed header stream count uncompressed) ok = omega arith
 known-kind (names ns) ok = omega arith
 known-kind (arguments xs) ok = omega arith
 known-kind (unknown kind bytes) ok = omega (arith, ok .1)
+
+-- the kind that is read where a section stands
+pub kind-found : (p : List ℕ) (at : ℕ) (s : Section) → WellFormed s → SectionAt p at s → kindAt p at ≡ kindOf s
+unfolding kindOf
+kind-found p at s ok g = ap sectionType (g .kind) ∙ back s ok
+  where
+    back : (s : Section) → WellFormed s → sectionType (kindNumber (kindOf s)) ≡ kindOf s
+    back (plain header texts) ok = refl
+    back (packed header stream count uncompressed) ok = refl
+    back (names ns) ok = refl
+    back (arguments xs) ok = refl
+    back (unknown kind bytes) ok = sectionType-unknown kind (ok .0)
 
 -- the numbers of a section's body header
 abbrev pub Fields : List ℕ → ℕ → Section → Type 0
@@ -62,11 +77,11 @@ pub section-fields :
     length p ≤ limit →
     (at : ℕ) (s : Section) →
     WellFormed s →
-    entriesFit s ≡ true →
+    countable s ≡ true →
     at + aligned (filled s) ≤ length p →
     Stands p (at + 8) (bodyHeader s (length (storedBytes s))) →
     Fields p at s
-unfolding storedBytes bodyHeader entriesFit
+unfolding storedBytes bodyHeader countable
 section-fields p small at (names ns) ok fit within header =
     let stored : ℕ = length (flatMap nameEntry ns) in
     let short : stored ≤ 65535 = leb-true stored 65535 fit in

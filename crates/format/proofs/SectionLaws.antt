@@ -10,9 +10,11 @@ use lib.ListN.{length}
 use Rattle.wire.specs.Number.{u16At, u32At}
 use Rattle.layout.specs.Checked.{Checked, good, then}
 use Rattle.format.specs.Encoding.{limit}
-use Rattle.layout.specs.Rows.{row}
-use Rattle.layout.specs.declared.row.Row.{Row}
-use Rattle.format.specs.Parse.{entries, pairs, nameRow, contentRow, arguments, names, stored, contents, body, sections, parse}
+use Rattle.layout.specs.Kinds.{checkedCompression}
+use Rattle.layout.specs.declared.compression.SourceCompression.the-variants.{None}
+use Rattle.table.specs.Rows.{plainRow, namesRow, argumentsRow}
+use Rattle.table.specs.declared.row.Row.{Row}
+use Rattle.format.specs.Parse.{entries, pairs, nameRowAt, contentRowAt, parseArguments, parseNames, parseStored, parseContents, parseSection, kindAt, parseSections, parse}
 use Rattle.format.proofs.FrameLaws.{Frame, frame-good, Framed, framed-good, framed-found}
 use Rattle.layout.proofs.Checked.{check-good, then-good, check-passes, then-passes}
 
@@ -37,12 +39,12 @@ module _ (p : List ℕ) (at : ℕ) where
 
   module _ (size : ℕ) (rs : List Row) where
     pub contents-good :
-        contents p at size ≡ good rs →
+        parseContents p at size ≡ good rs →
         Framed p at size 28 (u32At p (at + 16))
-        × (stored (u16At p (at + 14)) p at (u32At p (at + 16)) ≡ good rs)
+        × (parseStored (checkedCompression (u16At p (at + 14))) p at ≡ good rs)
         × (u16At p (at + 12) ≡ 0)
         × (u16At p (at + 14) ≤ 1)
-    unfolding contents
+    unfolding parseContents
     contents-good e =
         let long = check-good _ _ _ _ e in
         let no-flags = check-good _ _ _ _ (long .1) in
@@ -54,57 +56,57 @@ module _ (p : List ℕ) (at : ℕ) where
         Framed p at size 28 (u32At p (at + 16)) →
         u16At p (at + 12) ≡ 0 →
         u16At p (at + 14) ≤ 1 →
-        stored (u16At p (at + 14)) p at (u32At p (at + 16)) ≡ good rs →
-        contents p at size ≡ good rs
-    unfolding contents
+        parseStored (checkedCompression (u16At p (at + 14))) p at ≡ good rs →
+        parseContents p at size ≡ good rs
+    unfolding parseContents
     contents-found frame flags known found =
         check-passes _ _ _ (le-leb 28 size (omega (arith, frame .within)))
         (check-passes _ _ _ (eq-eqb (u16At p (at + 12)) 0 flags)
         (check-passes _ _ _ (le-leb (u16At p (at + 14)) 1 known) (then-passes _ _ (framed-found p at size 28 _ frame) found)))
 
   abbrev pub plainEntries : Checked (List Row)
-  plainEntries = entries 12 contentRow (u32At p (at + 24)) p (at + 28) (at + 28 + u32At p (at + 16))
+  plainEntries = entries 12 contentRowAt (u32At p (at + 24)) p (at + 28) (at + 28 + u32At p (at + 16))
 
-  pub plain-equal : (rs : List Row) → stored zero p at (u32At p (at + 16)) ≡ good rs → u32At p (at + 20) ≡ u32At p (at + 16)
-  unfolding stored
+  pub plain-equal : (rs : List Row) → parseStored None p at ≡ good rs → u32At p (at + 20) ≡ u32At p (at + 16)
+  unfolding parseStored
   plain-equal rs e = eqb-true _ _ (check-good _ _ _ _ e .0)
 
-  pub plain-good : (rs : List Row) → stored zero p at (u32At p (at + 16)) ≡ good rs → Headed (row 0 0 (u32At p (at + 8)) 0 0 0 0) plainEntries rs
-  unfolding stored
-  plain-good rs e = headed (row 0 0 (u32At p (at + 8)) 0 0 0 0) plainEntries rs (check-good _ _ _ _ e .1)
+  pub plain-good : (rs : List Row) → parseStored None p at ≡ good rs → Headed (plainRow (u32At p (at + 8))) plainEntries rs
+  unfolding parseStored
+  plain-good rs e = headed (plainRow (u32At p (at + 8))) plainEntries rs (check-good _ _ _ _ e .1)
 
   pub plain-found :
       {rest : List Row} →
       u32At p (at + 20) ≡ u32At p (at + 16) →
       plainEntries ≡ good rest →
-      stored zero p at (u32At p (at + 16)) ≡ good (row 0 0 (u32At p (at + 8)) 0 0 0 0 ∷ rest)
-  unfolding stored
+      parseStored None p at ≡ good (plainRow (u32At p (at + 8)) ∷ rest)
+  unfolding parseStored
   plain-found equal found = check-passes _ _ _ (eq-eqb (u32At p (at + 20)) (u32At p (at + 16)) equal) (then-passes _ _ found refl)
 
   -- ---- names
 
   abbrev pub nameEntries : Checked (List Row)
-  nameEntries = entries 16 (nameRow p) (u32At p (at + 12)) p (at + 18) (at + 18 + u16At p (at + 16))
+  nameEntries = entries 16 (nameRowAt p) (u32At p (at + 12)) p (at + 18) (at + 18 + u16At p (at + 16))
 
   module _ (size : ℕ) where
     pub names-good :
         (rs : List Row) →
-        names p at size ≡ good rs →
-        Framed p at size 18 (u16At p (at + 16)) × Headed (row 2 0 0 0 0 0 0) nameEntries rs × (u32At p (at + 8) ≡ 0)
-    unfolding names
+        parseNames p at size ≡ good rs →
+        Framed p at size 18 (u16At p (at + 16)) × Headed (namesRow) nameEntries rs × (u32At p (at + 8) ≡ 0)
+    unfolding parseNames
     names-good rs e =
         let long = check-good _ _ _ _ e in
         let no-flags = check-good _ _ _ _ (long .1) in
         let (done, frame, found) = then-good _ _ _ (no-flags .1) in
-        (framed-good p at size 18 (u16At p (at + 16)) frame, headed (row 2 0 0 0 0 0 0) nameEntries rs found, eqb-true _ _ (no-flags .0))
+        (framed-good p at size 18 (u16At p (at + 16)) frame, headed (namesRow) nameEntries rs found, eqb-true _ _ (no-flags .0))
 
     pub names-found :
         {rest : List Row} →
         Framed p at size 18 (u16At p (at + 16)) →
         u32At p (at + 8) ≡ 0 →
         nameEntries ≡ good rest →
-        names p at size ≡ good (row 2 0 0 0 0 0 0 ∷ rest)
-    unfolding names
+        parseNames p at size ≡ good (namesRow ∷ rest)
+    unfolding parseNames
     names-found frame flags found =
         check-passes _ _ _ (le-leb 18 size (omega (arith, frame .within)))
         (check-passes _ _ _ (eq-eqb (u32At p (at + 8)) 0 flags)
@@ -118,22 +120,22 @@ module _ (p : List ℕ) (at : ℕ) where
   module _ (size : ℕ) where
     pub arguments-good :
         (rs : List Row) →
-        arguments p at size ≡ good rs →
-        Framed p at size 20 (u32At p (at + 12)) × Headed (row 3 0 0 0 0 0 0) argumentPairs rs × (u32At p (at + 8) ≡ 0)
-    unfolding arguments
+        parseArguments p at size ≡ good rs →
+        Framed p at size 20 (u32At p (at + 12)) × Headed (argumentsRow) argumentPairs rs × (u32At p (at + 8) ≡ 0)
+    unfolding parseArguments
     arguments-good rs e =
         let long = check-good _ _ _ _ e in
         let no-flags = check-good _ _ _ _ (long .1) in
         let (done, frame, found) = then-good _ _ _ (no-flags .1) in
-        (framed-good p at size 20 (u32At p (at + 12)) frame, headed (row 3 0 0 0 0 0 0) argumentPairs rs found, eqb-true _ _ (no-flags .0))
+        (framed-good p at size 20 (u32At p (at + 12)) frame, headed (argumentsRow) argumentPairs rs found, eqb-true _ _ (no-flags .0))
 
     pub arguments-found :
         {rest : List Row} →
         Framed p at size 20 (u32At p (at + 12)) →
         u32At p (at + 8) ≡ 0 →
         argumentPairs ≡ good rest →
-        arguments p at size ≡ good (row 3 0 0 0 0 0 0 ∷ rest)
-    unfolding arguments
+        parseArguments p at size ≡ good (argumentsRow ∷ rest)
+    unfolding parseArguments
     arguments-found frame flags found =
         check-passes _ _ _ (le-leb 20 size (omega (arith, frame .within)))
         (check-passes _ _ _ (eq-eqb (u32At p (at + 8)) 0 flags)
@@ -147,13 +149,13 @@ pub record Section (p : List ℕ) (at count : ℕ) (rs : List Row) : Type 0 wher
   pub header : 8 ≤ u32At p at
   pub within : at + u32At p at ≤ length p
   pub first : List Row
-  pub first-good : body (u16At p (at + 6)) p at (u32At p at) ≡ good first
+  pub first-good : parseSection (kindAt p at) p at (u32At p at) ≡ good first
   pub rest : List Row
-  pub rest-good : sections count p (at + u32At p at) ≡ good rest
+  pub rest-good : parseSections count p (at + u32At p at) ≡ good rest
   pub all : rs ≡ first ++ rest
 
-pub sections-good : (p : List ℕ) (at count : ℕ) (rs : List Row) → sections (suc count) p at ≡ good rs → Section p at count rs
-unfolding sections
+pub sections-good : (p : List ℕ) (at count : ℕ) (rs : List Row) → parseSections (suc count) p at ≡ good rs → Section p at count rs
+unfolding parseSections
 sections-good p at count rs e =
     let framed = then-good _ _ _ e in
     let told = frame-good p at (framed .0) (framed .1) in
@@ -172,8 +174,8 @@ sections-good p at count rs e =
     }
 
 -- after the last section nothing is left
-pub sections-end : (p : List ℕ) (at : ℕ) (rs : List Row) → sections zero p at ≡ good rs → (at ≡ length p) × (rs ≡ [])
-unfolding sections
+pub sections-end : (p : List ℕ) (at : ℕ) (rs : List Row) → parseSections zero p at ≡ good rs → (at ≡ length p) × (rs ≡ [])
+unfolding parseSections
 sections-end p at rs e =
     let a = check-good _ _ _ _ e in
     let found = a .1 in
@@ -184,7 +186,7 @@ sections-end p at rs e =
 pub parse-good :
     (p : List ℕ) (rs : List Row) →
     parse p ≡ good rs →
-    (length p ≤ limit) × (sections (u16At p 6) p 8 ≡ good rs) × (8 ≤ length p) × (u32At p 0 ≡ length p) × (u16At p 4 ≡ 0)
+    (length p ≤ limit) × (parseSections (u16At p 6) p 8 ≡ good rs) × (8 ≤ length p) × (u32At p 0 ≡ length p) × (u16At p 4 ≡ 0)
 unfolding parse
 parse-good p rs e =
     let within = check-good _ _ _ _ e in

@@ -11,23 +11,23 @@ use Rattle.layout.specs.Checked.{fault, good, check}
 use Rattle.format.specs.Encoding.{limit}
 use Rattle.layout.specs.declared.refusal.Refusal.{Refusal}
 use Rattle.layout.specs.declared.refusal.Refusal.the-variants.{Oversize, Ragged, MainHeader, Leftover}
-use Rattle.format.specs.Parse.{frame, body, sections, parse}
+use Rattle.format.specs.Parse.{frame, parseSection, kindAt, parseSections, parse}
 
 module _ (p : List ℕ) (at : ℕ) where
-  pub sections-end : at ≡ length p → sections 0 p at ≡ good []
-  unfolding sections check
+  pub sections-end : at ≡ length p → parseSections 0 p at ≡ good []
+  unfolding parseSections check
   sections-end e = rw (eq-eqb at (length p) e)
 
-  pub sections-left : (at ≡ length p → ⊥) → sections 0 p at ≡ fault Leftover
-  unfolding sections check
+  pub sections-left : (at ≡ length p → ⊥) → parseSections 0 p at ≡ fault Leftover
+  unfolding parseSections check
   sections-left f = rw (ne-eqb at (length p) f)
 
-  pub sections-unframed : (n : ℕ) {r : Refusal} → frame p at ≡ fault r → sections (suc n) p at ≡ fault r
-  unfolding sections
+  pub sections-unframed : (n : ℕ) {r : Refusal} → frame p at ≡ fault r → parseSections (suc n) p at ≡ fault r
+  unfolding parseSections
   sections-unframed n e = after-fault _ _ e
 
-  pub sections-refused : (n size : ℕ) {r : Refusal} → frame p at ≡ good size → body (u16At p (at + 6)) p at size ≡ fault r → sections (suc n) p at ≡ fault r
-  unfolding sections
+  pub sections-refused : (n size : ℕ) {r : Refusal} → frame p at ≡ good size → parseSection (kindAt p at) p at size ≡ fault r → parseSections (suc n) p at ≡ fault r
+  unfolding parseSections
   sections-refused n size e q = after-good _ _ e ∙ after-fault _ _ q
 
 -- The main header, test by test.
@@ -55,6 +55,6 @@ module _ (p : List ℕ) where
         unfolding parse check
         parse-flags d e = rw (le-leb (length p) limit a, le-leb 8 (length p) b, eq-eqb (length p % 4) 0 c, eq-eqb (u32At p 0) (length p) d, ne-eqb (u16At p 4) 0 e)
 
-        pub parse-rest : u32At p 0 ≡ length p → u16At p 4 ≡ 0 → parse p ≡ sections (u16At p 6) p 8
+        pub parse-rest : u32At p 0 ≡ length p → u16At p 4 ≡ 0 → parse p ≡ parseSections (u16At p 6) p 8
         unfolding parse check
         parse-rest d e = rw (le-leb (length p) limit a, le-leb 8 (length p) b, eq-eqb (length p % 4) 0 c, eq-eqb (u32At p 0) (length p) d, eq-eqb (u16At p 4) 0 e)

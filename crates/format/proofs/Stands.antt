@@ -16,7 +16,7 @@ use Rattle.wire.specs.Number.{byteAt, littleEndian, bytesOf}
 use Rattle.wire.specs.Padding.{allZero}
 use Rattle.wire.proofs.NumberLaws.{length-bytesOf, littleEndian-below, read-back, write-back}
 use Rattle.wire.proofs.PaddingLaws.{allZero-replicate, zeros-are}
-use Rattle.layout.specs.Texts.{part}
+use Rattle.layout.specs.Spans.{part}
 use Rattle.format.specs.WellFormed.{Bytes}
 
 -- from the place on the payload is these bytes, and then what follows them

@@ -1,4 +1,4 @@
--- A text passes the check exactly where it is a text: UTF-8, with no NUL inside.
+-- A part of some bytes passes the check exactly where it is a text: UTF-8, with no NUL inside.
 -- Assumes nothing.
 use Prim.Native.Nat.{ℕ}
 use mathlib.Core.Bool.{not}
@@ -8,20 +8,22 @@ use borrow.Author.Tests.{not-true}
 use Rattle.wire.specs.Nul.{untilNul, hasNul}
 use Rattle.utf8.proofs.Laws.{empty}
 use Rattle.layout.specs.Checked.{good}
+use Rattle.layout.specs.Spans.{part}
 use Rattle.layout.specs.TextCheck.{checkText}
 use Rattle.layout.proofs.Checked.{check-good, check-passes}
 use Rattle.format.specs.WellFormed.{Text}
 
-pub text-ok : (s : List ℕ) → checkText s ≡ good tt → Text s
-unfolding checkText
-text-ok s e =
-    let utf8 = check-good _ _ _ _ e in
-    let closed = check-good _ _ _ _ (utf8 .1) in
-    record { utf8 = utf8 .0; closed = not-true (hasNul s) (closed .0) }
+module _ (bytes : List ℕ) (start count : ℕ) where
+  pub text-ok : checkText bytes start count ≡ good tt → Text (part bytes start count)
+  unfolding checkText
+  text-ok e =
+      let utf8 = check-good _ _ _ _ e in
+      let closed = check-good _ _ _ _ (utf8 .1) in
+      record { utf8 = utf8 .0; closed = not-true (hasNul (part bytes start count)) (closed .0) }
 
-pub ok-text : (s : List ℕ) → Text s → checkText s ≡ good tt
-unfolding checkText
-ok-text s ok = check-passes _ _ _ (ok .utf8) (check-passes _ _ _ (ap not (ok .closed)) refl)
+  pub ok-text : (text : List ℕ) → part bytes start count ≡ text → Text text → checkText bytes start count ≡ good tt
+  unfolding checkText
+  ok-text text is ok = rw is (check-passes _ _ _ (ok .utf8) (check-passes _ _ _ (ap not (ok .closed)) refl))
 
 pub empty-text : Text []
 unfolding untilNul

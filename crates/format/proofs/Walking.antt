@@ -6,11 +6,9 @@ use mathlib.Core.Path.{_≡_, refl, ap}
 use native.Mathlib.Omega.{arith}
 use lib.ListN.{length}
 use Rattle.wire.specs.Number.{u32At}
-use Rattle.layout.specs.Kinds.{sectionType}
-use Rattle.layout.specs.Rows.{row}
-use Rattle.layout.specs.declared.section_type.SourceInfoSectionType.the-variants.{Unknown}
+use Rattle.table.specs.declared.row.Row.{Row}
 use Rattle.format.specs.Parse.{afterPair}
-use Rattle.format.specs.Walk.{walkEntries, entriesEnd, pairRow, walkPairs, pairsEnd, walkContents, walkSection}
+use Rattle.format.specs.Walk.{placesFrom, walkEntries, entriesEnd, pairAt, walkPairs, pairsEnd}
 
 -- with one more done, one fewer is left
 pub one-fewer : (count done : ℕ) → done < count → count - done ≡ suc (count - (done + 1))
@@ -22,10 +20,10 @@ none-left count done h = omega arith
 module _ (p : List ℕ) where
   -- ---- entries
 
-  pub length-walkEntries : (header count at : ℕ) → length (walkEntries p header count at) ≡ count
+  pub length-walkEntries : (rowAt : ℕ → Row) (count at : ℕ) → length (walkEntries p rowAt count at) ≡ count
   unfolding walkEntries
-  length-walkEntries header zero at = refl
-  length-walkEntries header (suc count) at = ap suc (length-walkEntries header count (at + u32At p at))
+  length-walkEntries rowAt zero at = refl
+  length-walkEntries rowAt (suc count) at = ap suc (length-walkEntries rowAt count (at + u32At p at))
 
   pub entries-forward : (count at : ℕ) → at ≤ entriesEnd p count at
   unfolding entriesEnd
@@ -42,32 +40,29 @@ module _ (p : List ℕ) where
   pub length-walkPairs : (count at : ℕ) → length (walkPairs p count at) ≡ count
   unfolding walkPairs
   length-walkPairs zero at = refl
-  length-walkPairs (suc count) at = ap suc (length-walkPairs count (afterPair (pairRow p at)))
+  length-walkPairs (suc count) at = ap suc (length-walkPairs count (afterPair (pairAt p at)))
 
   pub pairs-forward : (count at : ℕ) → at ≤ pairsEnd p count at
   unfolding pairsEnd
   pairs-forward zero at = omega arith
-  pairs-forward (suc count) at = omega (arith, pairs-forward count (afterPair (pairRow p at)))
+  pairs-forward (suc count) at = omega (arith, pairs-forward count (afterPair (pairAt p at)))
 
   pub pairs-end-step :
-      (count done : ℕ) → done < count → (at : ℕ) → pairsEnd p (count - done) at ≡ pairsEnd p (count - (done + 1)) (afterPair (pairRow p at))
+      (count done : ℕ) → done < count → (at : ℕ) → pairsEnd p (count - done) at ≡ pairsEnd p (count - (done + 1)) (afterPair (pairAt p at))
   unfolding pairsEnd
   pairs-end-step count done more at = rw (one-fewer count done more)
 
   -- ---- sections
 
-  -- contents that are not plain, and sections of an unknown kind, have one row
-  pub packed-walk :
-      (n at : ℕ) →
-      (n ≡ 0 → ⊥) →
-      walkContents p n at ≡ row 1 0 (u32At p (at + 8)) (at + 28) (u32At p (at + 16)) (u32At p (at + 24)) (u32At p (at + 20)) ∷ []
-  unfolding walkContents
-  packed-walk zero at h = absurd (h refl)
-  packed-walk (suc n) at h = refl
+  pub places-next : (count done : ℕ) → done < count → (at : ℕ) → placesFrom p (count - done) at ≡ at ∷ placesFrom p (count - (done + 1)) (at + u32At p at)
+  unfolding placesFrom
+  places-next count done more at = rw (one-fewer count done more)
 
-  pub unknown-walk : (n kind at : ℕ) → sectionType n ≡ Unknown kind → walkSection p n at ≡ row 4 0 n (at + 8) (u32At p at - 8) 0 0 ∷ []
-  unfolding walkSection
-  unknown-walk zero kind at e = let z : _≡_ {A = ℕ} 0 1 = cc in absurd (omega arith)
-  unknown-walk (suc zero) kind at e = let z : _≡_ {A = ℕ} 0 1 = cc in absurd (omega arith)
-  unknown-walk (suc (suc zero)) kind at e = let z : _≡_ {A = ℕ} 0 1 = cc in absurd (omega arith)
-  unknown-walk (suc (suc (suc n))) kind at e = refl
+  pub places-end : (count done : ℕ) → count ≤ done → (at : ℕ) → placesFrom p (count - done) at ≡ []
+  unfolding placesFrom
+  places-end count done ended at = rw (none-left count done ended)
+
+  pub length-places : (count at : ℕ) → length (placesFrom p count at) ≡ count
+  unfolding placesFrom
+  length-places zero at = refl
+  length-places (suc count) at = ap suc (length-places count (at + u32At p at))

@@ -1,18 +1,15 @@
--- The card: the listing of the public copy, with lent output. And what it shows, by the public facts alone.
-use Prim.Native.Nat.{ℕ, _+_}
-use mathlib.Core.Bool.{true, false}
-use mathlib.Core.List.{List, [], _∷_, _++_}
+-- The card: the listing of the public copy, with lent output. And what it shows, by the public facts alone, proved in proofs/Card.antt.
+use Prim.Native.Nat.{ℕ}
+use mathlib.Core.List.{List, map}
 use mathlib.Core.Path.{_≡_}
-use lib.ListN.{length}
 use Rattle.layout.specs.Checked.{Checked, good, then}
 use Rattle.layout.specs.declared.refusal.Answer.{Answer}
-use Rattle.format.specs.Display.{plainLine, packedLine, namesLine, argumentsLine, heading, line}
+use Rattle.format.specs.Display.{plainLine, packedLine, namesLine, argumentsLine, page}
 use Rattle.format.specs.Listing.{listed}
-use Rattle.format.specs.Output.{answer, stored}
+use Rattle.format.specs.Output.{answer, outputAfter}
 use Rattle.format.specs.Print.{printed}
 use Rattle.format.specs.PublicCopy.{publicCopy}
-use Rattle.format.specs.PublicFacts.{Fact, publicFacts}
-use Rattle.format.specs.PublicFacts as fact
+use Rattle.format.specs.PublicFacts.{Fact, plainContents, packedContents, nameTexts, argumentPairs, publicFacts}
 use Rattle.format.specs.Secrecy.{AcceptedPayload, SameCallOf}
 
 -- the public copy, then its listing; or reading's refusal
@@ -25,7 +22,7 @@ cardAnswer payload room = answer (cardOf payload) room
 
 -- the lent output after the call
 unfoldable pub cardOutput : List ℕ → List ℕ → List ℕ
-cardOutput payload output = stored (cardOf payload) output
+cardOutput payload output = outputAfter (cardOf payload) output
 
 -- what show_card prints
 abbrev pub cardPrinted : List ℕ → List ℕ
@@ -35,19 +32,14 @@ cardPrinted input = printed cardOf input
 
 -- what the line of a fact says after its place: its count, and of packed contents that no bytes are there
 unfoldable pub factLine : Fact → List ℕ
-factLine (fact.contents count false) = plainLine count
-factLine (fact.contents count true) = packedLine count 0
-factLine (fact.names count texts) = namesLine count
-factLine (fact.arguments count pairs) = argumentsLine count
+factLine (plainContents count) = plainLine count
+factLine (packedContents count) = packedLine count 0
+factLine (nameTexts count texts) = namesLine count
+factLine (argumentPairs count pairs) = argumentsLine count
 
--- a line for each fact, the first of which has a place
-unfoldable pub factLines : ℕ → List Fact → List ℕ
-factLines place [] = []
-factLines place (f ∷ facts) = line place (factLine f) ++ factLines (place + 1) facts
-
--- the card that facts make, without any payload
+-- the card that facts make, without any payload: a line that counts them, then a line for each
 unfoldable pub shown : List Fact → List ℕ
-shown facts = heading (length facts) ++ factLines 0 facts
+shown facts = page (map factLine facts)
 
 -- an accepted payload's card has a line for each of its facts, in order, with its count, and nothing else
 abbrev pub CardOfFacts : Type 0

@@ -1,34 +1,32 @@
--- The card of an accepted payload by a walk that tests nothing: sections by their size fields, with the count fields. It is what a pass over the payload
--- follows; what it finds is the card (proofs/CardFound.antt).
-use Prim.Native.Nat.{ℕ, zero, suc, _+_}
-use mathlib.Core.Bool.{cond}
-use mathlib.Core.List.{List, [], _++_}
-use lib.Dec.{ltb}
-use Rattle.wire.specs.Number.{u16At, u32At}
-use Rattle.layout.specs.Kinds.{known}
-use Rattle.format.specs.CopyWalk.{knownFrom}
-use Rattle.format.specs.Display.{plainLine, packedLine, namesLine, argumentsLine, heading, line}
+-- The card of an accepted payload by the walk over its sections, with the count fields. It is what a pass over the payload follows; what it finds is the
+-- card (proofs/CardFound.antt).
+use Prim.Native.Nat.{ℕ, _+_}
+use mathlib.Core.List.{List, [], _∷_, flatMap}
+use Rattle.wire.specs.Number.{u32At}
+use Rattle.layout.specs.declared.compression.SourceCompression.{SourceCompression}
+use Rattle.layout.specs.declared.compression.SourceCompression.the-variants.{None, Zlib}
+use Rattle.layout.specs.declared.section_type.SourceInfoSectionType.{SourceInfoSectionType}
+use Rattle.layout.specs.declared.section_type.SourceInfoSectionType.the-variants.{SourceContents, SourceNames, Arguments, Unknown}
+use Rattle.format.specs.Display.{plainLine, packedLine, namesLine, argumentsLine, page}
+use Rattle.format.specs.Parse.{kindAt}
+use Rattle.format.specs.PublicCopy.{publicCount}
+use Rattle.format.specs.Walk.{compressionAt, places}
 
 module _ (p : List ℕ) where
-  -- what the line of contents at a place says, by the compression: of packed ones that no bytes are there
-  unfoldable pub publicContentsAt : ℕ → ℕ → List ℕ
-  publicContentsAt zero at = plainLine (u32At p (at + 24))
-  publicContentsAt (suc n) at = packedLine (u32At p (at + 24)) 0
+  -- what the line of the contents at a place says, by the compression: of packed ones that no bytes are there
+  unfoldable pub publicContentsLine : SourceCompression → ℕ → List ℕ
+  publicContentsLine None at = plainLine (u32At p (at + 24))
+  publicContentsLine Zlib at = packedLine (publicCount (u32At p (at + 24))) 0
 
-  -- what the line of a section of a known kind at a place says
-  unfoldable pub publicLineAt : ℕ → ℕ → List ℕ
-  publicLineAt zero at = publicContentsAt (u16At p (at + 14)) at
-  publicLineAt (suc zero) at = namesLine (u32At p (at + 12))
-  publicLineAt (suc (suc n)) at = argumentsLine (u32At p (at + 16))
+  -- what the line of the section of a kind at a place says, if the kind is known
+  unfoldable pub publicLine : SourceInfoSectionType → ℕ → List (List ℕ)
+  publicLine SourceContents at = publicContentsLine (compressionAt p at) at ∷ []
+  publicLine SourceNames at = namesLine (u32At p (at + 12)) ∷ []
+  publicLine Arguments at = argumentsLine (u32At p (at + 16)) ∷ []
+  publicLine (Unknown kind) at = []
 
-  -- the line of a section of a kind at a place, if the kind is known; the line has a place in the card
-  abbrev pub shownAt : ℕ → ℕ → ℕ → List ℕ
-  shownAt kind at place = cond (ltb kind 3) (line place (publicLineAt kind at)) []
-
-  -- the lines of so many sections, the first of which stands at a place of the payload, and whose line has a place in the card
-  unfoldable pub cardLines : ℕ → ℕ → ℕ → List ℕ
-  cardLines zero at place = []
-  cardLines (suc count) at place = shownAt (u16At p (at + 6)) at place ++ cardLines count (at + u32At p at) (place + known (u16At p (at + 6)))
+  abbrev pub publicLineAt : ℕ → List (List ℕ)
+  publicLineAt at = publicLine (kindAt p at) at
 
   unfoldable pub card : List ℕ
-  card = heading (knownFrom p (u16At p 6) 8) ++ cardLines (u16At p 6) 8 0
+  card = page (flatMap publicLineAt (places p))

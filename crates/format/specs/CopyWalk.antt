@@ -1,18 +1,30 @@
--- The public copy of an accepted payload by a walk that tests nothing: sections by their size fields, entries by theirs, with the count fields. It is
--- what a pass over the payload follows; what it finds is the public copy (proofs/CopyFound.antt).
+-- The public copy of an accepted payload by the walk over its sections, with the count fields. It is what a pass over the payload follows; what it finds is
+-- the public copy (proofs/CopyFound.antt).
 use Prim.Native.Nat.{ℕ, zero, suc, _+_, _-_}
-use mathlib.Core.List.{List, [], _++_}
+use mathlib.Core.List.{List, [], _∷_, _++_, flatMap}
 use lib.ListN.{length, replicate}
 use Rattle.wire.specs.Number.{u16At, u32At}
-use Rattle.layout.specs.Kinds.{known}
-use Rattle.layout.specs.Texts.{part}
+use Rattle.layout.specs.Spans.{part}
+use Rattle.layout.specs.declared.compression.SourceCompression.{SourceCompression}
+use Rattle.layout.specs.declared.compression.SourceCompression.the-variants.{None, Zlib}
+use Rattle.layout.specs.declared.section_type.SourceInfoSectionType.{SourceInfoSectionType}
+use Rattle.layout.specs.declared.section_type.SourceInfoSectionType.the-variants.{SourceContents, SourceNames, Arguments, Unknown}
 use Rattle.format.specs.Encoding.{u16, u32, encodeSection}
+use Rattle.format.specs.Parse.{kindAt}
+use Rattle.format.specs.PublicCopy.{publicCount}
 use Rattle.format.specs.Sections.{plain, packed}
+use Rattle.format.specs.Walk.{compressionAt, places}
 
 -- contents of so many records, by the compression
-unfoldable pub contentsCopy : ℕ → ℕ → List ℕ
-contentsCopy zero count = encodeSection (plain 0 (replicate count []))
-contentsCopy (suc n) count = encodeSection (packed 0 [] count 0)
+unfoldable pub contentsCopy : SourceCompression → ℕ → List ℕ
+contentsCopy None count = encodeSection (plain 0 (replicate count []))
+contentsCopy Zlib count = encodeSection (packed 0 [] (publicCount count) 0)
+
+-- the main header, and the sections' bytes after it
+unfoldable pub copyOf : List (List ℕ) → List ℕ
+copyOf sections =
+    let bytes : List ℕ = flatMap (λ (s : List ℕ). s) sections in
+    u32 (8 + length bytes) ++ (u16 0 ++ (u16 (length sections) ++ bytes))
 
 module _ (p : List ℕ) where
   -- the entry of names at a place, with 1 for its content size
@@ -24,25 +36,21 @@ module _ (p : List ℕ) where
   nameCopies zero at = []
   nameCopies (suc count) at = nameCopy at ++ nameCopies count (at + u32At p at)
 
-  -- what is left of the section of a kind at a place: of names the entries are changed, and what stands before and after them stays
-  unfoldable pub copyAt : ℕ → ℕ → List ℕ
-  copyAt zero at = contentsCopy (u16At p (at + 14)) (u32At p (at + 24))
-  copyAt (suc zero) at =
-      let stored : ℕ = u16At p (at + 16) in
-      part p at 18 ++ (nameCopies (u32At p (at + 12)) (at + 18) ++ part p (at + 18 + stored) (u32At p at - (18 + stored)))
-  copyAt (suc (suc zero)) at = part p at (u32At p at)
-  copyAt (suc (suc (suc n))) at = []
+  -- names: the entries are changed, and what stands before and after them stays
+  unfoldable pub namesCopy : ℕ → List ℕ
+  namesCopy at =
+      let bytes : ℕ = u16At p (at + 16) in
+      part p at 18 ++ (nameCopies (u32At p (at + 12)) (at + 18) ++ part p (at + 18 + bytes) (u32At p at - (18 + bytes)))
 
-  -- how many sections of so many from a place on are of a known kind
-  unfoldable pub knownFrom : ℕ → ℕ → ℕ
-  knownFrom zero at = 0
-  knownFrom (suc count) at = known (u16At p (at + 6)) + knownFrom count (at + u32At p at)
+  -- what a public copy has for the section of a kind at a place: a section, or none
+  unfoldable pub sectionCopy : SourceInfoSectionType → ℕ → List (List ℕ)
+  sectionCopy SourceContents at = contentsCopy (compressionAt p at) (u32At p (at + 24)) ∷ []
+  sectionCopy SourceNames at = namesCopy at ∷ []
+  sectionCopy Arguments at = part p at (u32At p at) ∷ []
+  sectionCopy (Unknown kind) at = []
 
-  unfoldable pub copiesFrom : ℕ → ℕ → List ℕ
-  copiesFrom zero at = []
-  copiesFrom (suc count) at = copyAt (u16At p (at + 6)) at ++ copiesFrom count (at + u32At p at)
+  abbrev pub copyAt : ℕ → List (List ℕ)
+  copyAt at = sectionCopy (kindAt p at) at
 
   unfoldable pub copy : List ℕ
-  copy =
-      let bytes : List ℕ = copiesFrom (u16At p 6) 8 in
-      u32 (8 + length bytes) ++ (u16 0 ++ (u16 (knownFrom (u16At p 6) 8) ++ bytes))
+  copy = copyOf (flatMap copyAt (places p))

@@ -3,7 +3,7 @@ use Prim.Native.Nat.{ℕ, zero, suc, _+_, _/_, _%_}
 use Prim.Native.Char.{code}
 use Prim.Native.String.{String, [] as none, _∷_ as cons}
 use mathlib.Core.Bool.{true, false, cond}
-use mathlib.Core.List.{List, [], _∷_, _++_}
+use mathlib.Core.List.{List, [], _∷_, _++_, map}
 use lib.Dec.{ltb}
 use lib.ListN.{length}
 use Rattle.format.specs.Sections.{Section, plain, packed, names, arguments, unknown}
@@ -17,15 +17,15 @@ ascii (cons c s) = code c ∷ ascii s
 abbrev pub digit : ℕ → ℕ
 digit n = cond (ltb n 10) (48 + n) (55 + n)
 
--- a number in decimal, without leading zeros, in at most `most` digits
+-- a number in decimal, without leading zeros, in at most so many digits
 unfoldable pub decimalWithin : ℕ → ℕ → List ℕ
 decimalWithin zero n = []
-decimalWithin (suc most) n = elim (ltb n 10) [ true ↦ digit n ∷ [] | false ↦ decimalWithin most (n / 10) ++ (digit (n % 10) ∷ []) ]
+decimalWithin (suc digits) n = elim (ltb n 10) [ true ↦ digit n ∷ [] | false ↦ decimalWithin digits (n / 10) ++ (digit (n % 10) ∷ []) ]
 
 abbrev pub decimal : ℕ → List ℕ
 decimal n = decimalWithin (suc n) n
 
--- the last digits of a number in hexadecimal
+-- the last so many digits of a number in hexadecimal
 unfoldable pub hex : ℕ → ℕ → List ℕ
 hex zero n = []
 hex (suc places) n = hex places (n / 16) ++ (digit (n % 16) ∷ [])
@@ -64,10 +64,14 @@ heading count = ascii "// Shader Source Info: " ++ (decimal count ++ ascii " sec
 abbrev pub line : ℕ → List ℕ → List ℕ
 line place text = ascii "//   [" ++ (decimal place ++ (ascii "] " ++ (text ++ ascii "\n")))
 
--- a line for each section, the first of which has a place
-unfoldable pub lines : ℕ → List Section → List ℕ
+-- a line for each text, the first of which has a place
+unfoldable pub lines : ℕ → List (List ℕ) → List ℕ
 lines place [] = []
-lines place (s ∷ ss) = line place (described s) ++ lines (place + 1) ss
+lines place (text ∷ texts) = line place text ++ lines (place + 1) texts
+
+-- a line that counts texts, then a line for each
+unfoldable pub page : List (List ℕ) → List ℕ
+page texts = heading (length texts) ++ lines 0 texts
 
 unfoldable pub display : List Section → List ℕ
-display ss = heading (length ss) ++ lines 0 ss
+display ss = page (map described ss)

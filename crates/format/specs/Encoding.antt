@@ -7,6 +7,10 @@ use lib.ListN.{length, replicate}
 use Rattle.wire.specs.Number.{bytesOf}
 use Rattle.wire.specs.Padding.{padding, aligned}
 use Rattle.wire.specs.Length.{wireSize}
+use Rattle.layout.specs.Kinds.{kindNumber, compressionNumber}
+use Rattle.layout.specs.declared.compression.SourceCompression.the-variants.{None, Zlib}
+use Rattle.layout.specs.declared.section_type.SourceInfoSectionType.{SourceInfoSectionType}
+use Rattle.layout.specs.declared.section_type.SourceInfoSectionType.the-variants.{SourceContents, SourceNames, Arguments, Unknown}
 use Rattle.format.specs.Sections.{Name, Pair, Section, plain, packed, names, arguments, unknown}
 
 abbrev pub u16 : ℕ → List ℕ
@@ -48,25 +52,25 @@ storedBytes (unknown kind bytes) = bytes
 
 -- DxilSourceInfo_SourceContents, _SourceNames and _Args: the body header, for that many stored bytes
 unfoldable pub bodyHeader : Section → ℕ → List ℕ
-bodyHeader (plain header texts) bytes = u32 header ++ (u16 0 ++ (u16 0 ++ (u32 bytes ++ (u32 bytes ++ u32 (length texts)))))
-bodyHeader (packed header stream count uncompressed) bytes = u32 header ++ (u16 0 ++ (u16 1 ++ (u32 bytes ++ (u32 uncompressed ++ u32 count))))
+bodyHeader (plain header texts) bytes = u32 header ++ (u16 0 ++ (u16 (compressionNumber None) ++ (u32 bytes ++ (u32 bytes ++ u32 (length texts)))))
+bodyHeader (packed header stream count uncompressed) bytes = u32 header ++ (u16 0 ++ (u16 (compressionNumber Zlib) ++ (u32 bytes ++ (u32 uncompressed ++ u32 count))))
 bodyHeader (names ns) bytes = u32 0 ++ (u32 (length ns) ++ u16 bytes)
 bodyHeader (arguments ps) bytes = u32 0 ++ (u32 bytes ++ u32 (length ps))
 bodyHeader (unknown kind all) bytes = []
 
-unfoldable pub kindOf : Section → ℕ
-kindOf (plain header texts) = 0
-kindOf (packed header stream count uncompressed) = 0
-kindOf (names ns) = 1
-kindOf (arguments ps) = 2
-kindOf (unknown kind bytes) = kind
+unfoldable pub kindOf : Section → SourceInfoSectionType
+kindOf (plain header texts) = SourceContents
+kindOf (packed header stream count uncompressed) = SourceContents
+kindOf (names ns) = SourceNames
+kindOf (arguments ps) = Arguments
+kindOf (unknown kind bytes) = Unknown kind
 
 -- DxilSourceInfoSection: aligned size, flags, kind; the body header and the stored bytes; padding
 unfoldable pub encodeSection : Section → List ℕ
 encodeSection s =
     let bytes : List ℕ = storedBytes s in
     let body : List ℕ = bodyHeader s (length bytes) ++ bytes in
-    padded (u32 (aligned (8 + length body)) ++ (u16 0 ++ (u16 (kindOf s) ++ body)))
+    padded (u32 (aligned (8 + length body)) ++ (u16 0 ++ (u16 (kindNumber (kindOf s)) ++ body)))
 
 -- DxilSourceInfo: aligned size, flags, section count; the sections
 unfoldable pub encode : List Section → List ℕ
@@ -78,18 +82,18 @@ encode ss =
 abbrev pub limit : ℕ
 limit = 26214400
 
--- a names section counts its entry bytes in 16 bits
-unfoldable pub entriesFit : Section → Bool
-entriesFit (plain header texts) = true
-entriesFit (packed header stream count uncompressed) = true
-entriesFit (names ns) = leb (length (flatMap nameEntry ns)) 65535
-entriesFit (arguments ps) = true
-entriesFit (unknown kind bytes) = true
+-- whether the field for a section's entry bytes can hold their number: only that of names, of 16 bits, can be too small
+unfoldable pub countable : Section → Bool
+countable (plain header texts) = true
+countable (packed header stream count uncompressed) = true
+countable (names ns) = leb (length (flatMap nameEntry ns)) 65535
+countable (arguments ps) = true
+countable (unknown kind bytes) = true
 
-unfoldable pub allFit : List Section → Bool
-allFit [] = true
-allFit (s ∷ ss) = entriesFit s && allFit ss
+unfoldable pub allCountable : List Section → Bool
+allCountable [] = true
+allCountable (s ∷ ss) = countable s && allCountable ss
 
--- whether sections can be written: at most 65,535 of them, of at most 65,535 entry bytes each, in a payload within the limit
-unfoldable pub fits : List Section → Bool
-fits ss = leb (length ss) 65535 && allFit ss && leb (length (encode ss)) limit
+-- whether sections can be written: at most 65,535 of them, names of at most 65,535 entry bytes, in a payload within the limit
+unfoldable pub withinLimits : List Section → Bool
+withinLimits ss = leb (length ss) 65535 && allCountable ss && leb (length (encode ss)) limit

@@ -24,6 +24,7 @@ pub mod Promises
 pub mod RoundTrips
 pub mod Secrecy
 pub mod Card
+pub mod RefusedCalls
 -- How a second pass goes over a payload
 pub mod Walk
 pub mod Lines

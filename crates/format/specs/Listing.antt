@@ -6,7 +6,7 @@ use Rattle.layout.specs.declared.refusal.Answer.{Answer}
 use Rattle.format.specs.Parse.{parse}
 use Rattle.format.specs.Resolve.{resolve}
 use Rattle.format.specs.Display.{display}
-use Rattle.format.specs.Output.{answer, stored}
+use Rattle.format.specs.Output.{answer, outputAfter}
 
 -- the listing of a payload: of the sections that its rows say
 unfoldable pub listed : List ℕ → Checked (List ℕ)
@@ -21,4 +21,4 @@ listAnswer payload room = answer (listed payload) room
 
 -- the lent output after listing
 unfoldable pub listOutput : List ℕ → List ℕ → List ℕ
-listOutput payload output = stored (listed payload) output
+listOutput payload output = outputAfter (listed payload) output

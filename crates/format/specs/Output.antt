@@ -15,6 +15,6 @@ answer (fault refusal) room = Refused refusal
 answer (good bytes) room = cond (leb (length bytes) room) (Accepted (length bytes)) (Refused (NoRoom (length bytes)))
 
 -- the output after such a call: the bytes from its start on, the rest as it was; as it was where the call is refused
-unfoldable pub stored : Checked (List ℕ) → List ℕ → List ℕ
-stored (fault refusal) output = output
-stored (good bytes) output = cond (leb (length bytes) (length output)) (bytes ++ drop (length bytes) output) output
+unfoldable pub outputAfter : Checked (List ℕ) → List ℕ → List ℕ
+outputAfter (fault refusal) output = output
+outputAfter (good bytes) output = cond (leb (length bytes) (length output)) (bytes ++ drop (length bytes) output) output

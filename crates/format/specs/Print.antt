@@ -15,8 +15,8 @@ use Rattle.format.specs.Display.{ascii, decimal}
 use Rattle.format.specs.Listing.{listed}
 
 -- the most bytes that a program reads, and prints of a job's outcome
-abbrev pub most : ℕ
-most = 65536
+abbrev pub printLimit : ℕ
+printLimit = 65536
 
 -- the line of a refused call, by its number
 abbrev pub numberLine : ℕ → List ℕ
@@ -28,12 +28,13 @@ refusedLine refusal = numberLine (refusalNumber refusal)
 abbrev pub longerLine : List ℕ
 longerLine = ascii "// longer than 65536 bytes\n"
 
--- what is printed of an answer, over an output of `most` bytes that the call left: nothing more where it is accepted, else the line of the refusal from the
--- start on; and how many bytes
+-- what is printed of an answer, over an output of `printLimit` bytes that the call left: nothing more where it is accepted, else the line of the refusal from the
+-- start on
 unfoldable pub told : Answer → List ℕ → List ℕ
 told (Accepted count) output = output
 told (Refused refusal) output = sets output 0 (refusedLine refusal)
 
+-- how many bytes of it are printed
 unfoldable pub toldLength : Answer → ℕ
 toldLength (Accepted count) = count
 toldLength (Refused refusal) = length (refusedLine refusal)
@@ -41,11 +42,11 @@ toldLength (Refused refusal) = length (refusedLine refusal)
 -- what is printed of an outcome
 unfoldable pub outcome : Checked (List ℕ) → List ℕ
 outcome (fault refusal) = refusedLine refusal
-outcome (good bytes) = cond (leb (length bytes) most) bytes (refusedLine (NoRoom (length bytes)))
+outcome (good bytes) = cond (leb (length bytes) printLimit) bytes (refusedLine (NoRoom (length bytes)))
 
 -- what is printed, by the bytes that standard input holds
 unfoldable pub printed : (List ℕ → Checked (List ℕ)) → List ℕ → List ℕ
-printed job input = cond (leb (length input) most) (outcome (job input)) longerLine
+printed job input = cond (leb (length input) printLimit) (outcome (job input)) longerLine
 
 -- what list_payload prints
 abbrev pub listPrinted : List ℕ → List ℕ

@@ -1,46 +1,48 @@
 -- What rows say: sections, with the texts and bytes that the rows name.
-use Prim.Native.Nat.{ℕ, zero, suc}
+use Prim.Native.Nat.{ℕ}
 use mathlib.Core.Bool.{true, false}
 use mathlib.Core.List.{List, [], _∷_, _++_}
-use lib.Dec.{eqb}
 use Rattle.layout.specs.Checked.{Checked, good, then}
+use Rattle.layout.specs.Spans.{spanBytes}
+use Rattle.table.specs.Rows.{bytesSpan, textSpan, valueSpan}
+use Rattle.table.specs.Tags.{tagOf, sameTag}
+use Rattle.table.specs.declared.row.Row.{Row}
+use Rattle.table.specs.declared.tag.Tag.{Tag}
+use Rattle.table.specs.declared.tag.Tag.the-variants as tag
+use Rattle.format.specs.Rules.{checkRows}
 use Rattle.format.specs.Sections.{Name, Pair, Section, plain, packed, names, arguments, unknown}
-use Rattle.layout.specs.Texts.{sideOf, part}
-use Rattle.layout.specs.declared.row.Row.{Row}
-use Rattle.format.specs.Rules.{checkRows, noTag}
 
 -- the rows of a tag that stand at the start, each as f has it
-unfoldable pub leading : {A : Type 0} → ℕ → (Row → A) → List Row → List A
+unfoldable pub leading : {A : Type 0} → Tag → (Row → A) → List Row → List A
 leading tag f [] = []
-leading tag f (r ∷ rows) = elim (eqb (r .tag) tag) [ true ↦ f r ∷ leading tag f rows | false ↦ [] ]
+leading tag f (r ∷ rows) = elim (sameTag (tagOf (r .tag)) tag) [ true ↦ f r ∷ leading tag f rows | false ↦ [] ]
 
 module _ (payload edit : List ℕ) where
-  -- count bytes from start on, on the row's side
-  abbrev pub at : Row → ℕ → ℕ → List ℕ
-  at r start count = part (sideOf (r .side) payload edit) start count
-
   abbrev pub contentOf : Row → List ℕ
-  contentOf r = at r (r .a) (r .b)
+  contentOf r = spanBytes payload edit (textSpan r)
 
   abbrev pub nameOf : Row → Name
-  nameOf r = record { text = at r (r .a) (r .b); contentSize = r .c }
+  nameOf r = record { text = spanBytes payload edit (textSpan r); contentSize = r .c }
 
   abbrev pub pairOf : Row → Pair
-  pairOf r = record { name = at r (r .a) (r .b); value = at r (r .c) (r .d) }
+  pairOf r = record { name = spanBytes payload edit (textSpan r); value = spanBytes payload edit (valueSpan r) }
 
-  -- the section that a row of a tag begins, with the entries that follow it; an entry's row begins none
-  unfoldable pub begun : ℕ → Row → List Row → List Section
-  begun zero r rows = plain (r .a) (leading 5 contentOf rows) ∷ []
-  begun (suc zero) r rows = packed (r .a) (at r (r .b) (r .c)) (r .d) (r .e) ∷ []
-  begun (suc (suc zero)) r rows = names (leading 6 nameOf rows) ∷ []
-  begun (suc (suc (suc zero))) r rows = arguments (leading 7 pairOf rows) ∷ []
-  begun (suc (suc (suc (suc zero)))) r rows = unknown (r .a) (at r (r .b) (r .c)) ∷ []
-  begun (suc (suc (suc (suc (suc n))))) r rows = []
+  -- the section that a row of a tag begins, with the entries that follow it; any other row begins none
+  unfoldable pub begun : Tag → Row → List Row → List Section
+  begun tag.PlainContents r rows = plain (r .a) (leading tag.Content contentOf rows) ∷ []
+  begun tag.PackedContents r rows = packed (r .a) (spanBytes payload edit (bytesSpan r)) (r .d) (r .e) ∷ []
+  begun tag.Names r rows = names (leading tag.Name nameOf rows) ∷ []
+  begun tag.Arguments r rows = arguments (leading tag.Pair pairOf rows) ∷ []
+  begun tag.Unknown r rows = unknown (r .a) (spanBytes payload edit (bytesSpan r)) ∷ []
+  begun tag.Content r rows = []
+  begun tag.Name r rows = []
+  begun tag.Pair r rows = []
+  begun tag.None r rows = []
 
   unfoldable pub sectionsOf : List Row → List Section
   sectionsOf [] = []
-  sectionsOf (r ∷ rows) = begun (r .tag) r rows ++ sectionsOf rows
+  sectionsOf (r ∷ rows) = begun (tagOf (r .tag)) r rows ++ sectionsOf rows
 
   -- the sections of rows that obey the rules
   unfoldable pub resolve : List Row → Checked (List Section)
-  resolve rows = then (checkRows payload edit noTag rows) (λ _. good (sectionsOf rows))
+  resolve rows = then (checkRows payload edit tag.None rows) (λ _. good (sectionsOf rows))

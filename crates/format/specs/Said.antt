@@ -1,34 +1,35 @@
--- What a row says, places apart: its tag, its numbers that are no places, and the texts and bytes that its places name.
-use Prim.Native.Nat.{ℕ, zero, suc}
-use mathlib.Core.List.{List, [], _∷_}
-use Rattle.layout.specs.Texts.{sideOf, part}
-use Rattle.layout.specs.declared.row.Row.{Row}
+-- What a row says, places apart: its tag, its numbers that are neither places nor lengths, and the texts and bytes that it names with their lengths.
+use Prim.Native.Nat.{ℕ}
+use mathlib.Core.List.{List, [], _∷_, map}
+use Rattle.layout.specs.Spans.{Span, spanBytes}
+use Rattle.table.specs.Rows.{spansOf}
+use Rattle.table.specs.Tags.{tagOf}
+use Rattle.table.specs.declared.row.Row.{Row}
+use Rattle.table.specs.declared.tag.Tag.{Tag}
+use Rattle.table.specs.declared.tag.Tag.the-variants.{PlainContents, PackedContents, Names, Arguments, Unknown, Content, Name, Pair, None}
 
 pub record Said : Type 0 where
-  pub tag : ℕ
-  -- in the row's order; lengths are among them
+  pub tag : Tag
   pub numbers : List ℕ
+  pub lengths : List ℕ
   pub texts : List (List ℕ)
 
-abbrev pub says : ℕ → List ℕ → List (List ℕ) → Said
-says tag numbers texts = record { tag = tag; numbers = numbers; texts = texts }
+abbrev pub says : Tag → List ℕ → List ℕ → List (List ℕ) → Said
+says tag numbers lengths texts = record { tag = tag; numbers = numbers; lengths = lengths; texts = texts }
 
-module _ (payload edit : List ℕ) where
-  -- count bytes from start on, on the row's side
-  abbrev from : Row → ℕ → ℕ → List ℕ
-  from r start count = part (sideOf (r .side) payload edit) start count
+-- the numbers of a row of a tag that are neither places nor lengths: header field, count and uncompressed bytes, kind, content size
+unfoldable pub numbersBy : Tag → Row → List ℕ
+numbersBy PlainContents r = r .a ∷ []
+numbersBy PackedContents r = r .a ∷ r .d ∷ r .e ∷ []
+numbersBy Names r = []
+numbersBy Arguments r = []
+numbersBy Unknown r = r .a ∷ []
+numbersBy Content r = []
+numbersBy Name r = r .c ∷ []
+numbersBy Pair r = []
+numbersBy None r = []
 
-  -- what a row of a tag says over a payload and an edit text
-  unfoldable pub saidBy : ℕ → Row → Said
-  saidBy zero r = says 0 (r .a ∷ []) []
-  saidBy (suc zero) r = says 1 (r .a ∷ r .c ∷ r .d ∷ r .e ∷ []) (from r (r .b) (r .c) ∷ [])
-  saidBy (suc (suc zero)) r = says 2 [] []
-  saidBy (suc (suc (suc zero))) r = says 3 [] []
-  saidBy (suc (suc (suc (suc zero)))) r = says 4 (r .a ∷ r .c ∷ []) (from r (r .b) (r .c) ∷ [])
-  saidBy (suc (suc (suc (suc (suc zero))))) r = says 5 (r .b ∷ []) (from r (r .a) (r .b) ∷ [])
-  saidBy (suc (suc (suc (suc (suc (suc zero)))))) r = says 6 (r .b ∷ r .c ∷ []) (from r (r .a) (r .b) ∷ [])
-  saidBy (suc (suc (suc (suc (suc (suc (suc n))))))) r =
-      says (suc (suc (suc (suc (suc (suc (suc n))))))) (r .b ∷ r .d ∷ []) (from r (r .a) (r .b) ∷ from r (r .c) (r .d) ∷ [])
-
-  abbrev pub said : Row → Said
-  said r = saidBy (r .tag) r
+-- what a row says over a payload and an edit text
+unfoldable pub said : List ℕ → List ℕ → Row → Said
+said payload edit r =
+    says (tagOf (r .tag)) (numbersBy (tagOf (r .tag)) r) (map (λ (s : Span). s .count) (spansOf r)) (map (spanBytes payload edit) (spansOf r))

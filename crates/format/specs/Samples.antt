@@ -1,5 +1,5 @@
 -- The starred sample payloads of document 01, each a call with its answer and what it leaves in the lent numbers or bytes. The payloads
--- are written out byte for byte, so that nothing of the definitions stands on both sides.
+-- are written out byte for byte, so that nothing of the definitions stands on both sides. proofs/Samples.antt computes them.
 use Prim.Native.Nat.{ℕ}
 use mathlib.Core.Path.{_≡_}
 use mathlib.Core.List.{List, [], _∷_, map}
@@ -139,20 +139,20 @@ abbrev refused : ℕ → Call → Sample
 refused number call = record { call = call; lent = lent; outcome = record { number = number; second = 0; left = lent } }
 
 -- an accepted call that stores so many rows or bytes
-abbrev accepted : Call → ℕ → List ℕ → Sample
-accepted call count left = record { call = call; lent = lent; outcome = record { number = 0; second = count; left = left } }
+abbrev acceptedCall : Call → ℕ → List ℕ → Sample
+acceptedCall call count left = record { call = call; lent = lent; outcome = record { number = 0; second = count; left = left } }
 
 abbrev pub samples : List Sample
 samples =
-    accepted (read emptyPayload) 0 (99 ∷ 98 ∷ 97 ∷ 96 ∷ 95 ∷ 94 ∷ 93 ∷ 92 ∷ 91 ∷ 90 ∷ 89 ∷ 88 ∷ 87 ∷ 86 ∷ 85 ∷ []) ∷
+    acceptedCall (read emptyPayload) 0 (99 ∷ 98 ∷ 97 ∷ 96 ∷ 95 ∷ 94 ∷ 93 ∷ 92 ∷ 91 ∷ 90 ∷ 89 ∷ 88 ∷ 87 ∷ 86 ∷ 85 ∷ []) ∷
     refused 2 (read []) ∷
     refused 2 (read (8 ∷ 0 ∷ 0 ∷ 0 ∷ 0 ∷ 0 ∷ 0 ∷ [])) ∷
-    accepted (write [] [] []) 8 (8 ∷ 0 ∷ 0 ∷ 0 ∷ 0 ∷ 0 ∷ 0 ∷ 0 ∷ 91 ∷ 90 ∷ 89 ∷ 88 ∷ 87 ∷ 86 ∷ 85 ∷ []) ∷
-    accepted (read emptyNames) 1 (2 ∷ 0 ∷ 0 ∷ 0 ∷ 0 ∷ 0 ∷ 0 ∷ 92 ∷ 91 ∷ 90 ∷ 89 ∷ 88 ∷ 87 ∷ 86 ∷ 85 ∷ []) ∷
+    acceptedCall (write [] [] []) 8 (8 ∷ 0 ∷ 0 ∷ 0 ∷ 0 ∷ 0 ∷ 0 ∷ 0 ∷ 91 ∷ 90 ∷ 89 ∷ 88 ∷ 87 ∷ 86 ∷ 85 ∷ []) ∷
+    acceptedCall (read emptyNames) 1 (2 ∷ 0 ∷ 0 ∷ 0 ∷ 0 ∷ 0 ∷ 0 ∷ 92 ∷ 91 ∷ 90 ∷ 89 ∷ 88 ∷ 87 ∷ 86 ∷ 85 ∷ []) ∷
     refused 8 (read paddingSet) ∷
-    accepted (read emptyContent) 2 (0 ∷ 0 ∷ 0 ∷ 0 ∷ 0 ∷ 0 ∷ 0 ∷ 5 ∷ 0 ∷ 48 ∷ 0 ∷ 0 ∷ 0 ∷ 0 ∷ 85 ∷ []) ∷
+    acceptedCall (read emptyContent) 2 (0 ∷ 0 ∷ 0 ∷ 0 ∷ 0 ∷ 0 ∷ 0 ∷ 5 ∷ 0 ∷ 48 ∷ 0 ∷ 0 ∷ 0 ∷ 0 ∷ 85 ∷ []) ∷
     refused 9 (read contentSizeZero) ∷
-    accepted (read packedCount5) 1 (1 ∷ 0 ∷ 0 ∷ 36 ∷ 0 ∷ 5 ∷ 900 ∷ 92 ∷ 91 ∷ 90 ∷ 89 ∷ 88 ∷ 87 ∷ 86 ∷ 85 ∷ []) ∷
+    acceptedCall (read packedCount5) 1 (1 ∷ 0 ∷ 0 ∷ 36 ∷ 0 ∷ 5 ∷ 900 ∷ 92 ∷ 91 ∷ 90 ∷ 89 ∷ 88 ∷ 87 ∷ 86 ∷ 85 ∷ []) ∷
     refused 17 (write [] [] (4 ∷ 0 ∷ 2 ∷ 0 ∷ 0 ∷ 0 ∷ 0 ∷ [])) ∷
     refused 17 (write (1 ∷ 2 ∷ 3 ∷ []) [] (4 ∷ 0 ∷ 3 ∷ 0 ∷ 3 ∷ 0 ∷ 0 ∷ [])) ∷
     refused 11 (read overlong) ∷

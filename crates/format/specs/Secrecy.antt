@@ -1,22 +1,24 @@
 -- Demand 3 as statements about the definitions, of every accepted payload: what a holder of the public copy can learn. Each is proved under its
 -- name in proofs/Secrecy.antt.
 use Prim.Native.Nat.{ℕ, _≤_, _<_}
-use mathlib.Core.Bool.{true, false}
+use mathlib.Core.Bool.{true}
 use mathlib.Core.List.{List, [], _++_, map}
 use mathlib.Core.Path.{_≡_}
 use lib.ListN.{length, drop, replicate}
 use Rattle.layout.specs.Checked.{good}
+use Rattle.table.specs.declared.row.Row.{Row}
 use Rattle.layout.specs.declared.refusal.Refusal.{Refusal}
 use Rattle.layout.specs.declared.refusal.Refusal.the-variants.{NoRoom}
 use Rattle.layout.specs.declared.refusal.Answer.{Answer}
 use Rattle.layout.specs.declared.refusal.Answer.the-variants.{Refused}
 use Rattle.format.specs.Encoding.{encode}
 use Rattle.format.specs.PublicCopy.{publicCopy, copyAnswer, copyOutput}
-use Rattle.format.specs.PublicFacts.{Fact, publicFacts}
-use Rattle.format.specs.PublicFacts as fact
+use Rattle.format.specs.PublicFacts.{Fact, plainContents, packedContents, nameTexts, argumentPairs, publicFacts}
 use Rattle.format.specs.Read.{accepted}
+use Rattle.format.specs.RoundTrips.{NumbersFit}
 use Rattle.format.specs.Sections.{Section, plain, packed, names, arguments}
-use Rattle.format.specs.WellFormed.{Bytes}
+use Rattle.format.specs.WellFormed.{Bytes, All}
+use Rattle.format.specs.Write.{written}
 
 abbrev pub AcceptedPayload : List ℕ → Type 0
 AcceptedPayload p = Bytes p × (accepted p ≡ true)
@@ -25,10 +27,10 @@ AcceptedPayload p = Bytes p × (accepted p ≡ true)
 
 -- the section that a public copy has for a fact: empty contents, names with content size 1, the pairs
 unfoldable pub sectionOf : Fact → Section
-sectionOf (fact.contents count false) = plain 0 (replicate count [])
-sectionOf (fact.contents count true) = packed 0 [] count 0
-sectionOf (fact.names count texts) = names (map (λ (text : List ℕ). record { text = text; contentSize = 1 }) texts)
-sectionOf (fact.arguments count pairs) = arguments pairs
+sectionOf (plainContents count) = plain 0 (replicate count [])
+sectionOf (packedContents count) = packed 0 [] count 0
+sectionOf (nameTexts count texts) = names (map (λ (text : List ℕ). record { text = text; contentSize = 1 }) texts)
+sectionOf (argumentPairs count pairs) = arguments pairs
 
 -- the bytes that facts make, without any payload
 unfoldable pub made : List Fact → List ℕ
@@ -74,15 +76,27 @@ CopyIsPublic =
     AcceptedPayload p →
     (c : List ℕ)
     × (publicCopy p ≡ good c)
-    × (accepted c ≡ true)
+    × AcceptedPayload c
     × (publicFacts c ≡ publicFacts p)
     × (publicCopy c ≡ good c)
     × (length c ≤ length p)
 
--- an accepted payload is refused with 19 alone, and with the copy's own length, which does not fit
+-- the public copy of an accepted payload is refused with 19 alone, and with its own length, which does not fit
 abbrev pub RefusedForRoom : Type 0
 RefusedForRoom =
     (p : List ℕ) (room : ℕ) (refusal : Refusal) →
     AcceptedPayload p →
     copyAnswer p room ≡ Refused refusal →
     (refusal ≡ NoRoom (length (made (publicFacts p)))) × (room < length (made (publicFacts p)))
+
+-- ---- what was written
+
+-- it is accepted, and so has a public copy
+abbrev pub WrittenIsAccepted : Type 0
+WrittenIsAccepted =
+    (payload edit q : List ℕ) (rows : List Row) →
+    Bytes payload →
+    Bytes edit →
+    All NumbersFit rows →
+    written payload edit rows ≡ good q →
+    AcceptedPayload q × (c : List ℕ) × (publicCopy q ≡ good c)

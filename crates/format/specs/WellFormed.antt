@@ -12,6 +12,10 @@ use Rattle.format.specs.Sections.{Name, Pair, Section, plain, packed, na
 abbrev pub Bytes : List ℕ → Type 0
 Bytes s = (k : ℕ) → getD s k 0 < 256
 
+-- words are numbers below 2 to the 32, as a table of u32s holds them
+abbrev pub Words : List ℕ → Type 0
+Words t = (k : ℕ) → getD t k 0 < 2 ^ 32
+
 abbrev pub All : {A : Type 0} → (A → Type 0) → List A → Type 0
 All P [] = Unit {0}
 All P (a ∷ rest) = P a × All P rest
@@ -30,7 +34,7 @@ pub record PairOk (p : Pair) : Type 0 where
   pub name : Text (p .name)
   pub value : Text (p .value)
 
--- texts are texts, numbers fit their fields, and an unknown section has a kind that is unknown and whole words
+-- texts are texts, numbers fit their fields, and an unknown section has an unknown kind and a multiple of 4 bytes
 abbrev pub WellFormed : Section → Type 0
 WellFormed (plain header texts) = (header < 2 ^ 32) × All Text texts
 WellFormed (packed header stream count uncompressed) = (header < 2 ^ 32) × Bytes stream × (count < 2 ^ 32) × (uncompressed < 2 ^ 32)

@@ -4,19 +4,19 @@ use mathlib.Core.List.{List}
 use lib.Dec.{eqb}
 use lib.ListN.{length}
 use Rattle.layout.specs.Checked.{Checked, good, check, then}
-use Rattle.format.specs.Encoding.{encode, fits}
-use Rattle.layout.specs.Rows.{width, rowsOf}
-use Rattle.layout.specs.declared.row.Row.{Row}
+use Rattle.format.specs.Encoding.{encode, withinLimits}
+use Rattle.table.specs.Rows.{width, rowsOf}
+use Rattle.table.specs.declared.row.Row.{Row}
 use Rattle.layout.specs.declared.refusal.Refusal.the-variants.{BadRow, WontFit}
 use Rattle.layout.specs.declared.refusal.Answer.{Answer}
 use Rattle.format.specs.Resolve.{resolve}
-use Rattle.format.specs.Output.{answer, stored}
+use Rattle.format.specs.Output.{answer, outputAfter}
 
 -- rows as a payload: their sections, within the limits, encoded
 unfoldable pub written : List ℕ → List ℕ → List Row → Checked (List ℕ)
 written payload edit rows =
     then (resolve payload edit rows) (λ sections.
-    check (fits sections) WontFit (λ _.
+    check (withinLimits sections) WontFit (λ _.
     good (encode sections)))
 
 -- the same from a table, which holds whole rows
@@ -29,4 +29,4 @@ writeAnswer payload edit table room = answer (writtenTable payload edit table) r
 
 -- the lent output after writing
 unfoldable pub writeOutput : List ℕ → List ℕ → List ℕ → List ℕ → List ℕ
-writeOutput payload edit table output = stored (writtenTable payload edit table) output
+writeOutput payload edit table output = outputAfter (writtenTable payload edit table) output

@@ -2,7 +2,7 @@
 use Prim.Native.Nat.{_%_, _≤_}
 use native.Mathlib.Omega.{arith}
 use mathlib.Core.Path.{_≡_, refl, sym, ap, _∙_}
-use mathlib.Core.List.{List, [], _∷_, _++_, flatMap, append-assoc}
+use mathlib.Core.List.{List, [], _∷_, _++_, map, flatMap, append-assoc, map-append}
 use lib.ListN.{length, length-append}
 
 module _ {A B : Type 0} (f : A → List B) where
@@ -22,3 +22,14 @@ module _ {A B : Type 0} (f : A → List B) where
   unfolding flatMap
   flatMap-least h [] = omega arith
   flatMap-least h (x ∷ a) = rw length-append (omega (arith, h x, flatMap-least h a))
+
+  -- a function of each part, and of all of them
+  pub map-flatMap : {C : Type 0} (g : B → C) (l : List A) → flatMap (λ (x : A). map g (f x)) l ≡ map g (flatMap f l)
+  unfolding flatMap
+  map-flatMap g [] = refl
+  map-flatMap {C} g (x ∷ l) = ap (λ (t : List C). map g (f x) ++ t) (map-flatMap g l) ∙ sym (map-append g (f x) (flatMap f l))
+
+pub flatMap-map : {A B C : Type 0} (g : B → List C) (f : A → B) (l : List A) → flatMap g (map f l) ≡ flatMap (λ (x : A). g (f x)) l
+unfolding flatMap
+flatMap-map g f [] = refl
+flatMap-map {C = C} g f (x ∷ l) = ap (λ (t : List C). g (f x) ++ t) (flatMap-map g f l)

@@ -3,17 +3,14 @@ use Prim.Native.Nat.{ℕ, zero, suc}
 use mathlib.Core.Path.{_≡_, refl, sym, ap, ap₂, _∙_}
 use mathlib.Core.List.{List, [], _∷_, map}
 use lib.ListN.{getD}
-use lib.Seq.{getD-set-same}
 use Rattle.layout.specs.declared.compression.SourceCompression.the-variants.{None, Zlib}
 use Rattle.layout.specs.declared.refusal.Refusal.{Refusal}
 use Rattle.layout.specs.declared.refusal.Refusal.the-variants.{Oversize, Ragged, MainHeader, Frame, Flag, Short, BodySize, Padding, EntrySize, OpenText, NotUtf8, InnerNul, Leftover, Compression, Unequal, NoRows, BadRow, WontFit, NoRoom}
 use Rattle.layout.specs.declared.refusal.Answer.{Answer}
 use Rattle.layout.specs.declared.refusal.Answer.the-variants.{Accepted, Refused}
-use Rattle.layout.specs.Kinds.{sectionType, kind}
+use Rattle.layout.specs.Kinds.{sectionType, kindNumber}
 use Rattle.layout.specs.Refusals.{answerNumber, answerSecond}
-use Rattle.layout.specs.Rows.{noRow, rowsOf}
-use Rattle.layout.specs.Promises.{KindHasNumber, NumberHasKind, NumberHasCompression, NumbersTellAnswers, NumbersTellRefusals, TableKeepsRows, RowsKeepTable, StoredRowIsThere}
-use Rattle.layout.proofs.Rows.{length-rowsOf, rowsOf-tableOf, tableOf-rowsOf, rowsOf-storeRow}
+use Rattle.layout.specs.Promises.{KindHasNumber, NumberHasKind, NumberHasCompression, NumbersTellAnswers, NumbersTellRefusals}
 
 pub kind-has-number : KindHasNumber
 kind-has-number zero = refl
@@ -22,11 +19,11 @@ kind-has-number (suc (suc zero)) = refl
 kind-has-number (suc (suc (suc n))) = refl
 
 pub number-has-kind : NumberHasKind
-number-has-kind t n e = ap (λ (k : ℕ). sectionType k) (ap kind e ∙ kind-has-number n) ∙ sym e
+number-has-kind t n e = ap (λ (k : ℕ). sectionType k) (ap kindNumber e ∙ kind-has-number n) ∙ sym e
 
 pub number-has-compression : NumberHasCompression
-number-has-compression None = refl
-number-has-compression Zlib = refl
+number-has-compression None = (refl, refl)
+number-has-compression Zlib = (refl, refl)
 
 -- the refusals in the order of their numbers, from 1
 refusals : ℕ → List Refusal
@@ -84,13 +81,3 @@ numbers-tell-answers a b n s = sym (answer-back a) ∙ ap₂ answerOf n s ∙ an
 
 pub numbers-tell-refusals : NumbersTellRefusals
 numbers-tell-refusals a b n s = let e = numbers-tell-answers (Refused a) (Refused b) n s in cc
-
-pub table-keeps-rows : TableKeepsRows
-table-keeps-rows rs = rowsOf-tableOf rs
-
-pub rows-keep-table : RowsKeepTable
-rows-keep-table t h = tableOf-rowsOf t h
-
-pub stored-row-is-there : StoredRowIsThere
-stored-row-is-there t i r h =
-    rw (rowsOf-storeRow t i r) (getD-set-same (rowsOf t) i r noRow (rw (length-rowsOf t) h))

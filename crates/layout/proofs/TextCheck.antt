@@ -10,22 +10,25 @@ use lib.ListN.{length}
 use Rattle.utf8.specs.Rfc3629.{wellFormed}
 use Rattle.wire.specs.Nul.{untilNul}
 use Rattle.layout.specs.Checked.{Checked, fault, good, check}
+use Rattle.layout.specs.Spans.{part}
 use Rattle.layout.specs.TextCheck.{checkText, verdict}
 use Rattle.layout.specs.declared.text_check.Check.the-variants as check
 use Rattle.layout.specs.declared.refusal.Refusal.{Refusal}
 use Rattle.layout.specs.declared.refusal.Refusal.the-variants.{NotUtf8, InnerNul}
 
-pub check-not-utf8 : (text : List ℕ) → wellFormed text ≡ false → checkText text ≡ fault NotUtf8
-unfolding checkText check
-check-not-utf8 text e = rw e
+-- of a text that is a part of some bytes
+module _ (bytes : List ℕ) (start count : ℕ) (text : List ℕ) (is : text ≡ part bytes start count) where
+  pub check-not-utf8 : wellFormed text ≡ false → checkText bytes start count ≡ fault NotUtf8
+  unfolding checkText check
+  check-not-utf8 e = rw (← is, e)
 
-pub check-inner-nul : (text : List ℕ) → wellFormed text ≡ true → untilNul text < length text → checkText text ≡ fault InnerNul
-unfolding checkText check
-check-inner-nul text e h = rw (e, lt-ltb (untilNul text) (length text) h)
+  pub check-inner-nul : wellFormed text ≡ true → untilNul text < length text → checkText bytes start count ≡ fault InnerNul
+  unfolding checkText check
+  check-inner-nul e h = rw (← is, e, lt-ltb (untilNul text) (length text) h)
 
-pub check-passed : (text : List ℕ) → wellFormed text ≡ true → length text ≤ untilNul text → checkText text ≡ good tt
-unfolding checkText check
-check-passed text e h = rw (e, le-ltb (untilNul text) (length text) h)
+  pub check-passed : wellFormed text ≡ true → length text ≤ untilNul text → checkText bytes start count ≡ good tt
+  unfolding checkText check
+  check-passed e h = rw (← is, e, le-ltb (untilNul text) (length text) h)
 
 pub passed : (c : Checked (Unit {0})) → verdict c ≡ check.Passed → c ≡ good tt
 passed (fault r) e = let z : _≡_ {A = ℕ} 0 1 = cc in absurd (omega arith)

@@ -1,7 +1,5 @@
--- The numbers of section kinds and of compression, as DxilContainer.h gives them.
+-- The numbers of section kinds and of compression, as DxilContainer.h gives them; and which kinds are known.
 use Prim.Native.Nat.{ℕ, zero, suc}
-use mathlib.Core.Bool.{cond}
-use lib.Dec.{ltb}
 use Rattle.layout.specs.declared.section_type.SourceInfoSectionType.{SourceInfoSectionType}
 use Rattle.layout.specs.declared.section_type.SourceInfoSectionType.the-variants.{SourceContents, SourceNames, Arguments, Unknown}
 use Rattle.layout.specs.declared.compression.SourceCompression.{SourceCompression}
@@ -16,22 +14,30 @@ sectionType (suc zero) = SourceNames
 sectionType (suc (suc zero)) = Arguments
 sectionType (suc (suc (suc n))) = Unknown (suc (suc (suc n)))
 
--- 1 for the number of a known kind, 0 for any other
-abbrev pub known : ℕ → ℕ
-known number = cond (ltb number 3) 1 0
-
 -- the number of a kind
-abbrev pub kind : SourceInfoSectionType → ℕ
-kind SourceContents = 0
-kind SourceNames = 1
-kind Arguments = 2
-kind (Unknown n) = n
+abbrev pub kindNumber : SourceInfoSectionType → ℕ
+kindNumber SourceContents = 0
+kindNumber SourceNames = 1
+kindNumber Arguments = 2
+kindNumber (Unknown n) = n
+
+-- how many sections a public copy has for one of a kind: one where the kind is known
+abbrev pub known : SourceInfoSectionType → ℕ
+known SourceContents = 1
+known SourceNames = 1
+known Arguments = 1
+known (Unknown n) = 0
 
 -- the compression that a number stands for, if it stands for one
 abbrev pub compression : ℕ → MaybeCompression
 compression zero = maybe.Known None
 compression (suc zero) = maybe.Known Zlib
 compression (suc (suc n)) = maybe.Unknown
+
+-- the compression of a number that was checked: what is not plain is packed
+abbrev pub checkedCompression : ℕ → SourceCompression
+checkedCompression zero = None
+checkedCompression (suc n) = Zlib
 
 -- the number of a compression
 abbrev pub compressionNumber : SourceCompression → ℕ

@@ -2,6 +2,5 @@ pub mod Checked
 pub mod Kinds
 pub mod Promises
 pub mod Refusals
-pub mod Rows
+pub mod Spans
 pub mod TextCheck
-pub mod Texts

@@ -1,6 +1,6 @@
 // How a contents section stores its entries, as DxilSourceInfo_SourceContentsCompressType numbers it.
 ghost use mathlib.Core.Path.{_≡_};
-ghost use Rattle.layout.specs.Kinds.{compression, compressionNumber};
+ghost use Rattle.layout.specs.Kinds.{compression, checkedCompression, compressionNumber};
 
 pub enum SourceCompression {
     // The entries stand in the section as they are: a plain section.
@@ -23,6 +23,16 @@ impl SourceCompression {
             0 => MaybeCompression::Known(SourceCompression::None),
             1 => MaybeCompression::Known(SourceCompression::Zlib),
             _ => MaybeCompression::Unknown,
+        }
+    }
+
+    // Of a number that was checked: what is not plain is packed.
+    pub fn checked(value: u16) -> Self
+        ensures { λ r. ⌜ r ≡ checkedCompression value ⌝ }
+    {
+        match value {
+            0 => SourceCompression::None,
+            _ => SourceCompression::Zlib,
         }
     }
 

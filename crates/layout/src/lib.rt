@@ -1,10 +1,9 @@
-// The SRCI layout's types: section kinds, compression, header sizes, refusals, rows, and the text that a
-// row names. specs/ holds the published layout: sections and their encoding.
+// What the SRCI layout has that needs code of its own: section kinds, compression, header sizes, refusals, the text or
+// bytes of a span, and what a text must be.
 //
 // Proved: every function is total, has no `requires`, and gives just what its definition in specs/ says.
 mod compression;
 mod refusal;
-mod row;
 mod section_type;
 mod text;
 mod text_check;
@@ -16,7 +15,6 @@ pub use compression::MaybeCompression;
 pub use compression::SourceCompression;
 pub use refusal::Answer;
 pub use refusal::Refusal;
-pub use row::Row;
 pub use section_type::SourceInfoSectionType;
 pub use text::bytes_of;
 pub use text::text_of;

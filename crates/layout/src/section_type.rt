@@ -1,6 +1,6 @@
 // Section kinds, as DxilSourceInfoSectionType numbers them, and the sizes of the layout's headers.
 ghost use mathlib.Core.Path.{_≡_};
-ghost use Rattle.layout.specs.Kinds.{sectionType, known, kind};
+ghost use Rattle.layout.specs.Kinds.{sectionType, kindNumber, known};
 
 pub enum SourceInfoSectionType {
     // Source texts, plain or packed.
@@ -50,21 +50,26 @@ impl SourceInfoSectionType {
         }
     }
 
-    // 1 for the number of a known kind and 0 for any other: how many sections a public copy has for one of a kind.
-    pub fn known(value: u16) -> u16
-        ensures { λ r. ⌜ r ≡ known value ⌝ }
-    {
-        if value < 3 { 1 } else { 0 }
-    }
-
     pub fn to_u16(self) -> u16
-        ensures { λ r. ⌜ r ≡ kind self ⌝ }
+        ensures { λ r. ⌜ r ≡ kindNumber self ⌝ }
     {
         match self {
             SourceInfoSectionType::SourceContents => 0,
             SourceInfoSectionType::SourceNames => 1,
             SourceInfoSectionType::Arguments => 2,
             SourceInfoSectionType::Unknown(value) => value,
+        }
+    }
+
+    // How many sections a public copy has for one of this kind: one where the kind is known.
+    pub fn known(self) -> u16
+        ensures { λ r. ⌜ r ≡ known self ⌝ }
+    {
+        match self {
+            SourceInfoSectionType::SourceContents => 1,
+            SourceInfoSectionType::SourceNames => 1,
+            SourceInfoSectionType::Arguments => 1,
+            SourceInfoSectionType::Unknown(_) => 0,
         }
     }
 }

@@ -5,7 +5,9 @@ ghost use Prim.Native.Nat.{ℕ, _<_};
 ghost use lib.ListN.{length, getD};
 ghost use Rattle.layout.specs.TextCheck.{checkText, verdict};
 use crate::refusal::Refusal;
+use crate::text::part_of;
 use utf8::Utf8;
+use wire::TextLength;
 
 // What a check answers that has nothing to give.
 pub enum Check {
@@ -37,22 +39,17 @@ fn is_plain(text: &[u8]) -> bool
     plain
 }
 
-// Of a plain text one look at each byte tells that it passes; any other is gone through twice, for its characters
-// and for a NUL.
-pub fn check_text(text: &[u8]) -> Check
-    ensures { λ r. ⌜ r ≡ verdict (checkText (now (text .entry))) ⌝ }
+// The text from `start` on. Of a plain text one look at each byte tells that it passes; any other is gone through twice,
+// for its characters and for a NUL.
+pub fn check_text(bytes: &[u8], start: usize, text: TextLength) -> Check
+    ensures { λ r. ⌜ r ≡ verdict (checkText (now (bytes .entry)) start (text .0)) ⌝ }
 {
+    let text = part_of(bytes, start, text.0 as usize);
     if text.len() < SHORT {
         if is_plain(text) {
             return Check::Passed;
         }
     }
-    check_any_text(text)
-}
-
-fn check_any_text(text: &[u8]) -> Check
-    ensures { λ r. ⌜ r ≡ verdict (checkText (now (text .entry))) ⌝ }
-{
     match validate::validate(text) {
         Utf8::IllFormed(_) => Check::Refused(Refusal::NotUtf8),
         Utf8::WellFormed => {

@@ -1,47 +1,23 @@
--- The listing line by line: what is left after one line, and the heading before the lines.
+-- The listing line by line: the next line, and those after it.
 -- Assumes nothing.
-use Prim.Native.Nat.{ℕ, zero, suc, _+_, _-_}
-use mathlib.Core.List.{List}
-use mathlib.Core.Path.{_≡_, refl, sym, _∙_}
-use native.Mathlib.Omega.{arith}
-use lib.ListN.{length, length-append}
-use lib.Seq.{sets}
-use Rattle.wire.specs.Number.{u16At, u32At}
-use Rattle.wire.proofs.Sets.{sets-append}
-use Rattle.layout.specs.Kinds.{sectionType}
-use Rattle.layout.specs.declared.section_type.SourceInfoSectionType.the-variants.{Unknown}
-use Rattle.format.specs.Display.{packedLine, unknownLine, line}
-use Rattle.format.specs.Lines.{contentsLineAt, lineAt, linesFrom}
+use Prim.Native.Nat.{ℕ, _+_, _-_, _≤_, _<_}
+use mathlib.Core.List.{List, [], _++_, map}
+use mathlib.Core.Path.{_≡_}
+use Rattle.wire.specs.Number.{u32At}
+use Rattle.format.specs.Display.{line, lines}
+use Rattle.format.specs.Lines.{lineAt}
+use Rattle.format.specs.Walk.{placesFrom}
+use Rattle.format.proofs.Walking.{places-next, places-end}
 
--- ---- what a section's line says
+-- the lines of so many sections from a place of the payload on, the first of which has a place in the listing
+abbrev pub linesFrom : List ℕ → ℕ → ℕ → ℕ → List ℕ
+linesFrom p count at place = lines place (map (lineAt p) (placesFrom p count at))
 
-module _ (p : List ℕ) (at : ℕ) where
-  pub packed-at : (n : ℕ) → (n ≡ 0 → ⊥) → contentsLineAt p n at ≡ packedLine (u32At p (at + 24)) (u32At p (at + 16))
-  unfolding contentsLineAt
-  packed-at zero h = absurd (h refl)
-  packed-at (suc n) h = refl
+module _ (p : List ℕ) (count place at : ℕ) where
+  pub lines-next : place < count → linesFrom p (count - place) at place ≡ line place (lineAt p at) ++ linesFrom p (count - (place + 1)) (at + u32At p at) (place + 1)
+  unfolding lines
+  lines-next more = rw (places-next p count place more at)
 
-  pub unknown-at : (n kind : ℕ) → sectionType n ≡ Unknown kind → lineAt p n at ≡ unknownLine kind (u32At p at - 8)
-  unfolding lineAt
-  unknown-at zero kind e = let z : _≡_ {A = ℕ} 0 1 = cc in absurd (omega arith)
-  unknown-at (suc zero) kind e = let z : _≡_ {A = ℕ} 0 1 = cc in absurd (omega arith)
-  unknown-at (suc (suc zero)) kind e = let z : _≡_ {A = ℕ} 0 1 = cc in absurd (omega arith)
-  unknown-at (suc (suc (suc n))) kind e = let same : suc (suc (suc n)) ≡ kind = cc in rw same
-
--- ---- one line, and those after it
-
-module _ (p : List ℕ) (left at place to : ℕ) where
-  -- the line of the section at a place
-  abbrev this : List ℕ
-  this = line place (lineAt p (u16At p (at + 6)) at)
-
-  abbrev rest : List ℕ
-  rest = linesFrom p left (at + u32At p at) (place + 1)
-
-  pub next-stored : (l target : List ℕ) → sets l to (linesFrom p (suc left) at place) ≡ target → sets (sets l to this) (to + length this) rest ≡ target
-  unfolding linesFrom
-  next-stored l target e = sym (sets-append this rest l to) ∙ e
-
-  pub next-length : to + length (linesFrom p (suc left) at place) ≡ to + length this + length rest
-  unfolding linesFrom
-  next-length = omega (arith, length-append this rest)
+  pub lines-end : count ≤ place → linesFrom p (count - place) at place ≡ []
+  unfolding lines
+  lines-end ended = rw (places-end p count place ended at)

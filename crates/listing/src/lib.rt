@@ -14,6 +14,7 @@ ghost use Rattle.format.specs.Listing.{listAnswer, listOutput};
 use layout::Answer;
 use layout::Refusal;
 use parse::Counted;
+
 // Lists a payload to a lent output, whole, or refuses it and leaves the output as it was.
 pub fn list(payload: &[u8], output: &mut [u8]) -> Answer
     ensures { λ r. ⌜ r ≡ listAnswer (now (payload .entry)) (length (now (output .entry))) ⌝ }

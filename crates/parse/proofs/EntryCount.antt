@@ -6,7 +6,7 @@ use mathlib.Core.Path.{_≡_, refl, ap, sym, _∙_}
 use native.Mathlib.Omega.{arith}
 use Rattle.layout.specs.Checked.{Checked, fault, good, then}
 use Rattle.layout.specs.declared.refusal.Refusal.{Refusal}
-use Rattle.layout.specs.declared.row.Row.{Row}
+use Rattle.table.specs.declared.row.Row.{Row}
 use Rattle.format.specs.Parse.{entry, afterEntry, entries}
 use Rattle.parse.specs.Outcome.{counted}
 use Rattle.parse.specs.declared.outcome.Counted.the-variants.{Refused}

@@ -3,3 +3,4 @@ pub mod EntryCount
 pub mod Outcomes
 pub mod PairCount
 pub mod SectionCount
+pub mod SectionTurns

@@ -8,7 +8,7 @@ use lib.ListN.{length}
 use Rattle.wire.specs.declared.length.TextLength.{TextLength}
 use Rattle.layout.specs.Checked.{Checked, fault, good}
 use Rattle.layout.specs.declared.refusal.Refusal.{Refusal}
-use Rattle.layout.specs.declared.row.Row.{Row}
+use Rattle.table.specs.declared.row.Row.{Row}
 use Rattle.parse.specs.Outcome.{maybeText, placeOf, counted}
 use Rattle.parse.specs.declared.outcome.MaybeText.the-variants as text
 use Rattle.parse.specs.declared.outcome.MaybePlace.the-variants as place

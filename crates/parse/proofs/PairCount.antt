@@ -8,7 +8,7 @@ use borrow.Author.Tests.{eq-eqb, ne-eqb}
 use Rattle.layout.specs.Checked.{fault, good, check, then}
 use Rattle.layout.specs.declared.refusal.Refusal.{Refusal}
 use Rattle.layout.specs.declared.refusal.Refusal.the-variants.{Leftover}
-use Rattle.layout.specs.declared.row.Row.{Row}
+use Rattle.table.specs.declared.row.Row.{Row}
 use Rattle.format.specs.Parse.{pair, afterPair, pairs}
 use Rattle.format.proofs.PairLaws.{pairs-bound}
 use Rattle.parse.specs.Outcome.{counted}

@@ -1,9 +1,9 @@
 -- What the steps of the first pass answer: of a value that was found, only what the next step needs.
-use Prim.Native.Nat.{ℕ}
+use Prim.Native.Nat.{ℕ, _+_}
 use mathlib.Core.List.{List}
 use lib.ListN.{length}
 use Rattle.layout.specs.Checked.{Checked, fault, good}
-use Rattle.layout.specs.declared.row.Row.{Row}
+use Rattle.table.specs.declared.row.Row.{Row}
 use Rattle.parse.specs.declared.outcome.MaybeText.{MaybeText}
 use Rattle.parse.specs.declared.outcome.MaybeText.the-variants as text
 use Rattle.parse.specs.declared.outcome.MaybePlace.{MaybePlace}
@@ -25,3 +25,8 @@ placeOf after (good a) = place.At (after a)
 abbrev pub counted : Checked (List Row) → Counted
 counted (fault refusal) = rows.Refused refusal
 counted (good rs) = rows.Rows (length rs)
+
+-- so many rows more; a refusal stays
+abbrev pub add : ℕ → Counted → Counted
+add k (rows.Rows n) = rows.Rows (k + n)
+add k (rows.Refused refusal) = rows.Refused refusal

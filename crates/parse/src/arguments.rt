@@ -3,7 +3,7 @@ ghost use mathlib.Core.Path.{_≡_};
 ghost use Prim.Native.Nat.{ℕ, _+_, _≤_, _<_};
 ghost use lib.ListN.{length, getD};
 ghost use Rattle.format.specs.Encoding.{limit};
-ghost use Rattle.format.specs.Parse.{pairText, pair, pairs, arguments, afterPair};
+ghost use Rattle.format.specs.Parse.{pairText, pair, pairs, parseArguments, afterPair};
 ghost use Rattle.parse.specs.Outcome.{maybeText, placeOf, counted};
 use crate::framing::check_framed;
 use crate::outcome::Counted;
@@ -125,7 +125,7 @@ fn check_pairs(payload: &[u8], count: u32, start: usize, end: usize) -> Counted
 pub fn parse_arguments(payload: &[u8], at: usize, size: usize) -> Counted
     requires { ⌜ at + size ≤ length (now payload) ⌝ }
     requires { ⌜ length (now payload) ≤ limit ⌝ }
-    ensures { λ r. ⌜ r ≡ counted (arguments (now (payload .entry)) at size) ⌝ }
+    ensures { λ r. ⌜ r ≡ counted (parseArguments (now (payload .entry)) at size) ⌝ }
 {
     if size < START {
         return Counted::Refused(Refusal::Short);

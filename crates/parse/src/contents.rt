@@ -3,8 +3,8 @@ ghost use mathlib.Core.Path.{_≡_};
 ghost use Prim.Native.Nat.{_+_, _≤_};
 ghost use lib.ListN.{length};
 ghost use Rattle.format.specs.Encoding.{limit};
-ghost use Rattle.layout.specs.Kinds.{compressionNumber};
-ghost use Rattle.format.specs.Parse.{stored, contents};
+ghost use Rattle.wire.specs.Number.{u32At};
+ghost use Rattle.format.specs.Parse.{parseStored, parseContents};
 ghost use Rattle.parse.specs.Outcome.{counted};
 use crate::entries::check_entries;
 use crate::framing::check_framed;
@@ -23,9 +23,10 @@ const ENTRY_HEADER: u32 = SourceInfoSectionType::CONTENT_ENTRY_HEADER_SIZE as u3
 
 // What a contents section at a place stores, by its compression. A packed stream is not looked into.
 fn check_stored(payload: &[u8], compression: SourceCompression, at: usize, bytes: u32) -> Counted
+    requires { ⌜ bytes ≡ u32At (now payload) (at + 16) ⌝ }
     requires { ⌜ at + 28 + bytes ≤ length (now payload) ⌝ }
     requires { ⌜ length (now payload) ≤ limit ⌝ }
-    ensures { λ r. ⌜ r ≡ counted (stored (compressionNumber compression) (now (payload .entry)) at bytes) ⌝ }
+    ensures { λ r. ⌜ r ≡ counted (parseStored compression (now (payload .entry)) at) ⌝ }
 {
     if let SourceCompression::Zlib = compression {
         return Counted::Rows(1);
@@ -45,7 +46,7 @@ fn check_stored(payload: &[u8], compression: SourceCompression, at: usize, bytes
 pub fn parse_contents(payload: &[u8], at: usize, size: usize) -> Counted
     requires { ⌜ at + size ≤ length (now payload) ⌝ }
     requires { ⌜ length (now payload) ≤ limit ⌝ }
-    ensures { λ r. ⌜ r ≡ counted (contents (now (payload .entry)) at size) ⌝ }
+    ensures { λ r. ⌜ r ≡ counted (parseContents (now (payload .entry)) at size) ⌝ }
 {
     if size < START {
         return Counted::Refused(Refusal::Short);

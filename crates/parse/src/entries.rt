@@ -4,7 +4,7 @@ ghost use Prim.Native.Nat.{_+_, _-_, _≤_};
 ghost use lib.ListN.{length};
 ghost use Rattle.wire.specs.Length.{wireSize};
 ghost use Rattle.layout.specs.TextCheck.{verdict};
-ghost use Rattle.format.specs.Parse.{terminatedText, entry, entries, contentRow, afterEntry};
+ghost use Rattle.format.specs.Parse.{terminatedText, entry, entries, contentRowAt, afterEntry};
 ghost use Rattle.parse.specs.Outcome.{placeOf, counted};
 use crate::outcome::Counted;
 use crate::outcome::MaybePlace;
@@ -25,7 +25,7 @@ fn terminated_utf8(payload: &[u8], at: usize, text: TextLength, next: usize) -> 
     if payload[end] != 0 {
         return Check::Refused(Refusal::OpenText);
     }
-    if let Check::Refused(refusal) = check_text(&payload[at..end]) {
+    if let Check::Refused(refusal) = check_text(payload, at, text) {
         return Check::Refused(refusal);
     }
     let after = at + text.wire_size().0;
@@ -68,7 +68,7 @@ fn check_entry(payload: &[u8], header: u32, at: usize, end: usize) -> MaybePlace
 // As many entries as the count says, from `start` on, up to `end`.
 pub fn check_entries(payload: &[u8], header: u32, count: u32, start: usize, end: usize) -> Counted
     requires { ⌜ (start ≤ end) × (end ≤ length (now payload)) ⌝ }
-    ensures { λ r. ⌜ r ≡ counted (entries header contentRow count (now (payload .entry)) start end) ⌝ }
+    ensures { λ r. ⌜ r ≡ counted (entries header contentRowAt count (now (payload .entry)) start end) ⌝ }
 {
     let mut at = start;
     let mut done: u32 = 0;

@@ -3,7 +3,7 @@ ghost use mathlib.Core.Path.{_≡_};
 ghost use Prim.Native.Nat.{_+_, _≤_};
 ghost use lib.ListN.{length};
 ghost use Rattle.format.specs.Encoding.{limit};
-ghost use Rattle.format.specs.Parse.{names};
+ghost use Rattle.format.specs.Parse.{parseNames};
 ghost use Rattle.parse.specs.Outcome.{counted};
 use crate::entries::check_entries;
 use crate::framing::check_framed;
@@ -22,7 +22,7 @@ const ENTRY_HEADER: u32 = SourceInfoSectionType::NAME_ENTRY_HEADER_SIZE as u32;
 pub fn parse_names(payload: &[u8], at: usize, size: usize) -> Counted
     requires { ⌜ at + size ≤ length (now payload) ⌝ }
     requires { ⌜ length (now payload) ≤ limit ⌝ }
-    ensures { λ r. ⌜ r ≡ counted (names (now (payload .entry)) at size) ⌝ }
+    ensures { λ r. ⌜ r ≡ counted (parseNames (now (payload .entry)) at size) ⌝ }
 {
     if size < START {
         return Counted::Refused(Refusal::Short);

@@ -3,10 +3,9 @@ ghost use mathlib.Core.Path.{_≡_};
 ghost use Prim.Native.Nat.{_+_, _≤_};
 ghost use lib.ListN.{length};
 ghost use Rattle.format.specs.Encoding.{limit};
-ghost use Rattle.wire.specs.Number.{u16At};
-ghost use Rattle.layout.specs.Kinds.{sectionType};
-ghost use Rattle.format.specs.Parse.{body, sections, parse};
-ghost use Rattle.parse.specs.Outcome.{counted};
+ghost use Rattle.format.specs.Parse.{parseSection, parseSections, parse};
+ghost use Rattle.parse.specs.Outcome.{counted, add};
+ghost use Rattle.parse.specs.Found.{InPayload, countedFound};
 use crate::arguments::parse_arguments;
 use crate::contents::parse_contents;
 use crate::names::parse_names;
@@ -15,13 +14,13 @@ use layout::PAYLOAD_LIMIT;
 use layout::Refusal;
 use layout::SourceInfoSectionType;
 use section_reader::MaybeSection;
+use section_reader::SectionReader;
 
 // The section of a size at a place, by the kind that its header says.
 fn parse_section(payload: &[u8], kind: SourceInfoSectionType, at: usize, size: usize) -> Counted
     requires { ⌜ at + size ≤ length (now payload) ⌝ }
     requires { ⌜ length (now payload) ≤ limit ⌝ }
-    requires { ⌜ kind ≡ sectionType (u16At (now payload) (at + 6)) ⌝ }
-    ensures { λ r. ⌜ r ≡ counted (body (u16At (now (payload .entry)) (at + 6)) (now (payload .entry)) at size) ⌝ }
+    ensures { λ r. ⌜ r ≡ counted (parseSection kind (now (payload .entry)) at size) ⌝ }
 {
     match kind {
         SourceInfoSectionType::SourceContents => parse_contents(payload, at, size),
@@ -31,38 +30,45 @@ fn parse_section(payload: &[u8], kind: SourceInfoSectionType, at: usize, size: u
     }
 }
 
-// As many sections as the count says, up to the payload's end.
+// The rows so far, with those of the section that a reader found; or the fault.
+fn parse_found(payload: &[u8], found: MaybeSection, rows: u32) -> Counted
+    requires { ⌜ InPayload (now payload) found × (length (now payload) ≤ limit) × (rows ≤ limit) ⌝ }
+    ensures { λ r. ⌜ r ≡ add rows (countedFound (now (payload .entry)) found) ⌝ }
+{
+    match found {
+        MaybeSection::Refused(refusal) => Counted::Refused(refusal),
+        MaybeSection::Found(section) => {
+            let kind = section.kind;
+            match parse_section(payload, kind, section.at, section.size) {
+                Counted::Refused(refusal) => Counted::Refused(refusal),
+                Counted::Rows(more) => Counted::Rows(rows + more),
+            }
+        }
+    }
+}
+
+// As many sections as the count says, up to the payload's end. One reader goes through them.
 fn parse_sections(payload: &[u8], count: u16) -> Counted
     requires { ⌜ 8 ≤ length (now payload) ⌝ }
     requires { ⌜ length (now payload) ≤ limit ⌝ }
-    ensures { λ r. ⌜ r ≡ counted (sections count (now (payload .entry)) 8) ⌝ }
+    ensures { λ r. ⌜ r ≡ counted (parseSections count (now (payload .entry)) 8) ⌝ }
 {
-    let mut at = SourceInfoSectionType::MAIN_HEADER_SIZE;
+    let mut reader = SectionReader::new(payload, SourceInfoSectionType::MAIN_HEADER_SIZE);
     let mut rows: u32 = 0;
     let mut done: u16 = 0;
     while done < count {
-        let taken = section_reader::next_section(payload, at);
-        let found = taken.section;
-        match found {
-            MaybeSection::Refused(refusal) => {
+        let found = reader.next();
+        match parse_found(payload, found, rows) {
+            Counted::Refused(refusal) => {
                 return Counted::Refused(refusal);
             }
-            MaybeSection::Found(section) => {
-                let kind = section.kind;
-                match parse_section(payload, kind, section.at, section.size) {
-                    Counted::Refused(refusal) => {
-                        return Counted::Refused(refusal);
-                    }
-                    Counted::Rows(more) => {
-                        rows += more;
-                        at = taken.next;
-                    }
-                }
+            Counted::Rows(all) => {
+                rows = all;
             }
         }
         done += 1;
     }
-    if section_reader::bytes_left(payload, at) {
+    if reader.has_left() {
         Counted::Refused(Refusal::Leftover)
     } else {
         Counted::Rows(rows)

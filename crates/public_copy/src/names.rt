@@ -6,14 +6,14 @@ ghost use lib.ListN.{length};
 ghost use lib.Seq.{sets};
 ghost use Rattle.wire.specs.Number.{u32At};
 ghost use Rattle.layout.specs.Checked.{isGood};
-ghost use Rattle.format.specs.CopyWalk.{nameCopies, copyAt};
+ghost use Rattle.format.specs.CopyWalk.{nameCopies, namesCopy};
 ghost use Rattle.format.specs.Encoding.{limit};
-ghost use Rattle.format.specs.Parse.{entries, nameRow, names};
+ghost use Rattle.format.specs.Parse.{entries, nameRowAt, parseNames};
 use layout::SourceInfoSectionType;
 
 // So many entries from a place of the payload on, up to `end`. They take as many bytes in the output.
 fn copy_entries(payload: &[u8], count: u32, start: usize, end: usize, output: &mut [u8], to: usize)
-    requires { ⌜ isGood (entries 16 (nameRow (now payload)) count (now payload) start end) ≡ true ⌝ }
+    requires { ⌜ isGood (entries 16 (nameRowAt (now payload)) count (now payload) start end) ≡ true ⌝ }
     requires { ⌜ end ≤ length (now payload) ⌝ }
     requires { ⌜ length (now payload) ≤ limit ⌝ }
     requires { ⌜ to ≤ start ⌝ }
@@ -34,13 +34,13 @@ fn copy_entries(payload: &[u8], count: u32, start: usize, end: usize, output: &m
 
 // The names section at a place. Answers the place after it.
 pub fn copy_names(payload: &[u8], at: usize, output: &mut [u8], to: usize) -> usize
-    requires { ⌜ isGood (names (now payload) at (u32At (now payload) at)) ≡ true ⌝ }
+    requires { ⌜ isGood (parseNames (now payload) at (u32At (now payload) at)) ≡ true ⌝ }
     requires { ⌜ at + u32At (now payload) at ≤ length (now payload) ⌝ }
     requires { ⌜ length (now payload) ≤ limit ⌝ }
     requires { ⌜ to ≤ at ⌝ }
-    ensures { λ r. ⌜ r ≡ to + length (copyAt (now (payload .entry)) 1 at) ⌝ }
+    ensures { λ r. ⌜ r ≡ to + length (namesCopy (now (payload .entry)) at) ⌝ }
     ensures { λ r. ⌜ r ≡ to + u32At (now (payload .entry)) at ⌝ }
-    ensures { λ _. ⌜ now (output .exit) ≡ sets (now (output .entry)) to (copyAt (now (payload .entry)) 1 at) ⌝ }
+    ensures { λ _. ⌜ now (output .exit) ≡ sets (now (output .entry)) to (namesCopy (now (payload .entry)) at) ⌝ }
 {
     let size = wire::read_u32(payload, at) as usize;
     let count = wire::read_u32(payload, at + 12);

@@ -6,9 +6,9 @@ use mathlib.Core.Path.{_≡_, ap, _∙_}
 use native.Mathlib.Nat.{zero-add, add-zero}
 use native.Mathlib.Omega.{arith}
 use lib.ListN.{length, drop, length-append}
-use Rattle.layout.specs.Rows.{width, tableOf, storeRow}
-use Rattle.layout.specs.declared.row.Row.{Row}
-use Rattle.layout.proofs.Rows.{store-next}
+use Rattle.table.specs.Rows.{width, tableOf, storeRow}
+use Rattle.table.specs.declared.row.Row.{Row}
+use Rattle.table.proofs.Rows.{store-next}
 use Rattle.read.specs.Store.{storeRows}
 
 pub storeRows-append : (table : List ℕ) (index : ℕ) (a b : List Row) → storeRows table index (a ++ b) ≡ storeRows (storeRows table index a) (index + length a) b

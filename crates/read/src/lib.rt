@@ -12,8 +12,8 @@ ghost use lib.ListN.{length};
 ghost use Rattle.format.specs.Read.{readAnswer, readTable};
 use layout::Answer;
 use layout::Refusal;
-use layout::Row;
 use parse::Counted;
+use table::Row;
 
 // Reads a payload into the rows of a lent table, whole, or refuses it and leaves the table as it was.
 pub fn read(payload: &[u8], rows: &mut [u32]) -> Answer

@@ -35,8 +35,8 @@
 ghost use Prim.Native.Nat.{_≤_};
 ghost use lib.ListN.{length};
 use layout::Answer;
-use layout::Row;
 use libc::STDOUT_FILENO;
+use table::Row;
 
 const NUMBERS: usize = 128;
 

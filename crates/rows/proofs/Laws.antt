@@ -1,18 +1,22 @@
 -- The laws of measuring: sizes stay bounded, and each row is a step.
 -- Assumes nothing.
-use Prim.Native.Nat.{ℕ, zero, suc, _+_, _≤_}
+use Prim.Native.Nat.{ℕ, _+_, _≤_}
 use mathlib.Core.Bool.{Bool, true, false, cond}
 use mathlib.Core.List.{List, _∷_}
 use mathlib.Core.Path.{_≡_, refl}
 use native.Mathlib.Omega.{arith}
 use borrow.Author.Tests.{leb-true}
-use lib.Dec.{ltb, leb}
+use lib.Dec.{leb}
 use Rattle.wire.specs.Length.{wireSize}
 use Rattle.wire.proofs.PaddingLaws.{aligned-by-arithmetic}
 use Rattle.layout.specs.Checked.{fault}
 use Rattle.layout.specs.TextCheck.{verdict}
 use Rattle.layout.specs.declared.refusal.Refusal.{Refusal}
-use Rattle.layout.specs.declared.row.Row.{Row}
+use Rattle.table.specs.Rows.{textSpan, valueSpan}
+use Rattle.table.specs.Tags.{tagOf, beginsSection}
+use Rattle.table.specs.declared.row.Row.{Row}
+use Rattle.table.specs.declared.tag.Tag.{Tag}
+use Rattle.table.specs.declared.tag.Tag.the-variants.{PlainContents, PackedContents, Names, Arguments, Unknown, Content, Name, Pair, None}
 use Rattle.layout.specs.declared.text_check.Check.the-variants.{Passed, Refused}
 use Rattle.layout.proofs.Checked.{after-fault, after-good}
 use Rattle.layout.proofs.TextCheck.{passed, not-passed}
@@ -37,23 +41,24 @@ pub record Bounded (sections : ℕ) (m : Sizes) : Type 0 where
 
 pub advance-bounded : (n : ℕ) (m : Sizes) (r : Row) → Bounded n m → Bounded (n + 1) (advance m r)
 unfolding advance
-advance-bounded n m r h = go (ltb (r .tag) 5)
+advance-bounded n m r h = go (beginsSection (tagOf (r .tag)))
   where
-    go : (b : Bool) → Bounded (n + 1) (cond b (begin m r) (extend m r))
+    go : (b : Bool) → Bounded (n + 1) (cond b (begin m (tagOf (r .tag)) r) (extend m (tagOf (r .tag)) r))
     go true = record { few = omega (arith, h .few); complete = capped-bound _; current = capped-bound _ }
     go false = record { few = omega (arith, h .few); complete = h .complete; current = capped-bound _ }
 
 -- an entry has at most a header of 16 bytes, two texts with their terminators, and padding
-pub added-bound : (tag : ℕ) (r : Row) → added tag r ≤ r .b + r .d + 20
+pub added-bound : (t : Tag) (r : Row) → added t r ≤ textSpan r .count + valueSpan r .count + 20
 unfolding added
-added-bound zero r = omega arith
-added-bound (suc zero) r = omega arith
-added-bound (suc (suc zero)) r = omega arith
-added-bound (suc (suc (suc zero))) r = omega arith
-added-bound (suc (suc (suc (suc zero)))) r = omega arith
-added-bound (suc (suc (suc (suc (suc zero))))) r = omega (arith, aligned-by-arithmetic (12 + wireSize (r .b)))
-added-bound (suc (suc (suc (suc (suc (suc zero)))))) r = omega (arith, aligned-by-arithmetic (16 + wireSize (r .b)))
-added-bound (suc (suc (suc (suc (suc (suc (suc n))))))) r = omega arith
+added-bound PlainContents r = omega arith
+added-bound PackedContents r = omega arith
+added-bound Names r = omega arith
+added-bound Arguments r = omega arith
+added-bound Unknown r = omega arith
+added-bound Content r = omega (arith, aligned-by-arithmetic (12 + wireSize (textSpan r .count)))
+added-bound Name r = omega (arith, aligned-by-arithmetic (16 + wireSize (textSpan r .count)))
+added-bound Pair r = omega arith
+added-bound None r = omega arith
 
 -- a row that breaks a rule ends the measuring, and any other is counted
 module _ (payload edit : List ℕ) (m : Sizes) (r : Row) (rows : List Row) where

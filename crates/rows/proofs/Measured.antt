@@ -1,31 +1,34 @@
 -- Measuring rows comes to the length of what writing gives, or to its refusal. What the pass keeps, with what the rows that are left add to it, is
 -- within the limits exactly where the sections are; a size that was capped is past the limit either way.
 -- Assumes nothing.
-use Prim.Native.Nat.{ℕ, zero, suc, _+_, _≤_, _<_}
+use Prim.Native.Nat.{ℕ, _+_, _≤_}
 use mathlib.Core.Bool.{Bool, true, false, cond, not, and-eq-true-iff, _&&_, _||_}
 use mathlib.Core.List.{List, [], _∷_, _++_, flatMap}
 use mathlib.Core.Logic.{_⊎_, inl, inr, ⊎-elim}
 use mathlib.Core.Path.{_≡_, refl, sym, ap, _∙_}
 use native.Mathlib.Nat.{add-zero}
-use native.Mathlib.Decide.{ℕ-discrete}
 use native.Mathlib.Omega.{arith}
-use borrow.Author.Tests.{leb-true, le-leb, le-ltb, ltb-true, ltb-false, not-true, eq-eqb, ne-eqb}
-use lib.Dec.{leb, ltb, eqb}
+use borrow.Author.Tests.{leb-true, le-leb, le-ltb, ltb-false, not-true}
+use lib.Dec.{leb, ltb}
 use lib.ListN.{length, length-append}
 use Rattle.wire.specs.Padding.{aligned}
 use Rattle.wire.proofs.PaddingLaws.{le-aligned, aligned-of-multiple}
 use Rattle.layout.specs.Checked.{Checked, fault, good, check}
 use Rattle.layout.specs.declared.refusal.Refusal.{Refusal}
 use Rattle.layout.specs.declared.refusal.Refusal.the-variants.{WontFit}
-use Rattle.layout.specs.declared.row.Row.{Row}
+use Rattle.table.specs.Tags.{tagOf, sameTag, entryTag, beginsSection}
+use Rattle.table.specs.declared.row.Row.{Row}
+use Rattle.table.specs.declared.tag.Tag.{Tag}
+use Rattle.table.specs.declared.tag.Tag.the-variants.{PlainContents, PackedContents, Names, Arguments, Unknown, Content, Name, Pair, None}
+use Rattle.table.proofs.Tags.{same-tag, other-tag, tag-discrete, section-no-entry}
 use Rattle.layout.proofs.Checked.{after-fault, after-good, then-good}
-use Rattle.format.specs.Encoding.{limit, encodeSection, encode, entriesFit, allFit, fits}
-use Rattle.format.specs.Resolve.{leading, at, sectionsOf, resolve}
-use Rattle.format.specs.Rules.{checkRow, checkRows, noTag}
+use Rattle.format.specs.Encoding.{limit, encodeSection, encode, countable, allCountable, withinLimits}
+use Rattle.format.specs.Resolve.{leading, begun, sectionsOf, resolve}
+use Rattle.format.specs.Rules.{checkRow, checkRows}
 use Rattle.format.specs.Sections.{Section}
 use Rattle.format.specs.Write.{written}
-use Rattle.format.proofs.Encoding.{length-encode, fits-good, fits-found}
-use Rattle.format.proofs.RowRules.{begins-none, own-entries, entry-own, entryTag, entryTag-high, RowOk, first-ok, rows-ok}
+use Rattle.format.proofs.Encoding.{length-encode, limits-good, limits-found}
+use Rattle.format.proofs.RowRules.{begins-none, entry-own, RowOk, first-ok, rows-ok}
 use Rattle.format.proofs.RowsByTag.{Every, leading-more, leading-ends}
 use Rattle.rows.proofs.SectionSizes.{sum, entriesSize, capped-small, small-capped, none-add, section-size}
 use Rattle.rows.specs.Measure.{sized, measured, capped, opened, added, begin, widest, extend, advance, nothing, finish, measureFrom}
@@ -45,13 +48,13 @@ module _ (payload edit : List ℕ) where
   record Fit (m : Sizes) (rows : List Row) : Type 0 where
     few : m .sections + length (sectionsOf payload edit rows) ≤ 65535
     narrow : m .wide ≡ false
-    entries : entryTag (m .previous) ≡ 6 → left m rows ≤ widest
-    all : allFit (sectionsOf payload edit rows) ≡ true
+    entries : entryTag (m .previous) ≡ Name → left m rows ≤ widest
+    all : allCountable (sectionsOf payload edit rows) ≡ true
     small : total m rows ≤ limit
 
   -- what was found narrow is
   abbrev Sound : Sizes → Type 0
-  Sound m = m .wide ≡ false → entryTag (m .previous) ≡ 6 → m .current ≤ widest
+  Sound m = m .wide ≡ false → entryTag (m .previous) ≡ Name → m .current ≤ widest
 
   -- one step comes to the same
   record Same (m next : Sizes) (r : Row) (rows : List Row) : Type 0 where
@@ -67,154 +70,176 @@ module _ (payload edit : List ℕ) where
   or-false true b e = let z : _≡_ {A = ℕ} 0 1 = cc in absurd (omega arith)
   or-false false b e = (refl, e)
 
-  still-narrow : (t size : ℕ) → (t ≡ 6 → size ≤ widest) → (eqb t 6 && ltb widest size) ≡ false
+  still-narrow : (t : Tag) (size : ℕ) → (t ≡ Name → size ≤ widest) → (sameTag t Name && ltb widest size) ≡ false
   still-narrow t size h =
-      elim (ℕ-discrete t 6) [
-        | yes q ↦ rw (eq-eqb t 6 q, le-ltb widest size (h q))
-        | no n ↦ rw (ne-eqb t 6 n)
+      elim (tag-discrete t Name) [
+        | yes q ↦ rw (same-tag t Name q, le-ltb widest size (h q))
+        | no n ↦ rw (other-tag t Name n)
       ]
 
   -- the row of an entry
-  module _ (m : Sizes) (r : Row) (rows : List Row) (high : 5 ≤ r .tag) (own : entryTag (m .previous) ≡ r .tag) where
-    fixed : entryTag (r .tag) ≡ r .tag
-    fixed = own-entries (r .tag) high
+  module _
+      (m : Sizes)
+      (r : Row)
+      (rows : List Row)
+      (t : Tag)
+      (is : tagOf (r .tag) ≡ t)
+      (entry : beginsSection t ≡ false)
+      (own : entryTag (m .previous) ≡ t)
+      (fixed : entryTag t ≡ t)
+    where
+      abbrev current : ℕ
+      current = m .current + added t r
 
-    abbrev current : ℕ
-    current = m .current + added (r .tag) r
+      adds : entriesSize (entryTag (m .previous)) (r ∷ rows) ≡ added t r + entriesSize (entryTag t) rows
+      unfolding entriesSize sum
+      adds = rw (own, fixed) (ap sum (leading-more t (added t) r rows is))
 
-    adds : entriesSize (entryTag (m .previous)) (r ∷ rows) ≡ added (r .tag) r + entriesSize (entryTag (r .tag)) rows
-    unfolding entriesSize sum
-    adds = rw (own, fixed) (ap sum (leading-more (r .tag) (added (r .tag)) r rows refl))
+      same-sections : sectionsOf payload edit (r ∷ rows) ≡ sectionsOf payload edit rows
+      unfolding sectionsOf
+      same-sections =
+          let none : begun payload edit (tagOf (r .tag)) r rows ≡ [] = rw is (begins-none payload edit t entry r rows) in
+          ap (λ (l : List Section). l ++ sectionsOf payload edit rows) none
 
-    same-sections : sectionsOf payload edit (r ∷ rows) ≡ sectionsOf payload edit rows
-    unfolding sectionsOf
-    same-sections = ap (λ (l : List Section). l ++ sectionsOf payload edit rows) (begins-none payload edit (r .tag) high r rows)
+      -- a size within the limit was not capped
+      uncapped : current ≤ limit → (capped current ≡ current) × (left m (r ∷ rows) ≡ left (extend m t r) rows) × (total (extend m t r) rows ≡ total m (r ∷ rows))
+      uncapped h =
+          let cap = capped-small current h in
+          let whole : left m (r ∷ rows) ≡ left (extend m t r) rows = omega (arith, adds) in
+          let sections = same-sections in
+          (cap, whole, cc)
 
-    -- a size within the limit was not capped
-    uncapped : current ≤ limit → (capped current ≡ current) × (left m (r ∷ rows) ≡ left (extend m r) rows) × (total (extend m r) rows ≡ total m (r ∷ rows))
-    uncapped h =
-        let cap = capped-small current h in
-        let whole : left m (r ∷ rows) ≡ left (extend m r) rows = omega (arith, adds) in
-        let sections = same-sections in
-        (cap, whole, cc)
-
-    extend-same : Same m (extend m r) r rows
-    extend-same =
-        record {
-          back = λ f.
-              let cap : capped current ≤ limit = omega (arith, f .small, le-aligned (left (extend m r) rows)) in
-              let (same, whole, sum) = uncapped (small-capped current cap) in (
+      extend-same : Same m (extend m t r) r rows
+      extend-same =
+          record {
+            back = λ f.
+                let cap : capped current ≤ limit = omega (arith, f .small, le-aligned (left (extend m t r) rows)) in
+                let (same, whole, sum) = uncapped (small-capped current cap) in (
+                  record {
+                    few = rw same-sections (f .few);
+                    narrow = or-false (m .wide) _ (f .narrow) .0;
+                    entries = λ q. rw whole (f .entries (fixed ∙ sym own ∙ q));
+                    all = rw same-sections (f .all);
+                    small = rw (← sum) (f .small);
+                  },
+                  sum,
+                );
+            forth = λ f.
+                let cap : current ≤ limit = omega (arith, f .small, adds, le-aligned (left m (r ∷ rows))) in
+                let (same, whole, sum) = uncapped cap in
                 record {
-                  few = rw same-sections (f .few);
-                  narrow = or-false (m .wide) _ (f .narrow) .0;
-                  entries = λ q. rw whole (f .entries (fixed ∙ sym own ∙ q));
-                  all = rw same-sections (f .all);
-                  small = rw (← sum) (f .small);
-                },
-                sum,
-              );
-          forth = λ f.
-              let cap : current ≤ limit = omega (arith, f .small, adds, le-aligned (left m (r ∷ rows))) in
-              let (same, whole, sum) = uncapped cap in
-              record {
-                few = rw (← same-sections) (f .few);
-                narrow = rw (f .narrow) (still-narrow (r .tag) (capped current) (λ q. omega (arith, same, adds, f .entries (own ∙ q))));
-                entries = λ q. rw (← whole) (f .entries (own ∙ sym fixed ∙ q));
-                all = rw (← same-sections) (f .all);
-                small = rw sum (f .small);
-              };
-          sound = λ e q.
-              let six : r .tag ≡ 6 = sym fixed ∙ q in
-              ltb-false widest (capped current) (rw (eq-eqb (r .tag) 6 six) at (or-false (m .wide) _ e .1));
-        }
+                  few = rw (← same-sections) (f .few);
+                  narrow = rw (f .narrow) (still-narrow t (capped current) (λ q. omega (arith, same, adds, f .entries (own ∙ q))));
+                  entries = λ q. rw (← whole) (f .entries (own ∙ sym fixed ∙ q));
+                  all = rw (← same-sections) (f .all);
+                  small = rw sum (f .small);
+                };
+            sound = λ e q.
+                let name : t ≡ Name = sym fixed ∙ q in
+                ltb-false widest (capped current) (rw (same-tag t Name name) at (or-false (m .wide) _ e .1));
+          }
 
-  names-begin : (t : ℕ) → t < 5 → entryTag t ≡ 6 → (r : Row) → opened t r ≡ 18
+  names-begin : (t : Tag) → beginsSection t ≡ true → entryTag t ≡ Name → (r : Row) → opened t r ≡ 18
   unfolding opened
-  names-begin zero h q r = absurd (omega arith)
-  names-begin (suc zero) h q r = absurd (omega arith)
-  names-begin (suc (suc zero)) h q r = refl
-  names-begin (suc (suc (suc zero))) h q r = absurd (omega arith)
-  names-begin (suc (suc (suc (suc zero)))) h q r = absurd (omega arith)
-  names-begin (suc (suc (suc (suc (suc n))))) h q r = absurd (omega arith)
+  names-begin PlainContents b q r = let z : _≡_ {A = ℕ} 0 1 = cc in absurd (omega arith)
+  names-begin PackedContents b q r = let z : _≡_ {A = ℕ} 0 1 = cc in absurd (omega arith)
+  names-begin Names b q r = refl
+  names-begin Arguments b q r = let z : _≡_ {A = ℕ} 0 1 = cc in absurd (omega arith)
+  names-begin Unknown b q r = let z : _≡_ {A = ℕ} 0 1 = cc in absurd (omega arith)
+  names-begin Content b q r = let z : _≡_ {A = ℕ} 0 1 = cc in absurd (omega arith)
+  names-begin Name b q r = let z : _≡_ {A = ℕ} 0 1 = cc in absurd (omega arith)
+  names-begin Pair b q r = let z : _≡_ {A = ℕ} 0 1 = cc in absurd (omega arith)
+  names-begin None b q r = let z : _≡_ {A = ℕ} 0 1 = cc in absurd (omega arith)
 
   -- the row of a section
-  module _ (m : Sizes) (r : Row) (rows : List Row) (low : r .tag < 5) (ok : RowOk payload edit (r .tag) r) (oks : Every (RowOk payload edit) rows) (sound : Sound m) where
-    abbrev before : ℕ
-    before = m .complete + aligned (m .current)
+  module _
+      (m : Sizes)
+      (r : Row)
+      (rows : List Row)
+      (t : Tag)
+      (is : tagOf (r .tag) ≡ t)
+      (begins : beginsSection t ≡ true)
+      (ok : RowOk payload edit t r)
+      (oks : Every (RowOk payload edit) rows)
+      (sound : Sound m)
+    where
+      abbrev before : ℕ
+      before = m .complete + aligned (m .current)
 
-    abbrev headed : ℕ
-    headed = opened (r .tag) r
+      abbrev headed : ℕ
+      headed = opened t r
 
-    -- the section before has no more entries
-    ended : left m (r ∷ rows) ≡ m .current
-    unfolding entriesSize sum
-    ended =
-        let none = leading-ends (entryTag (m .previous)) (added (entryTag (m .previous))) r rows (λ q. omega (arith, entryTag-high (m .previous))) in
-        omega (arith, ap sum none)
+      -- the section before has no more entries
+      ended : left m (r ∷ rows) ≡ m .current
+      unfolding entriesSize sum
+      ended =
+          let none = leading-ends (entryTag (m .previous)) (added (entryTag (m .previous))) r rows (λ q. section-no-entry t (m .previous) begins (sym is ∙ q)) in
+          omega (arith, ap sum none)
 
-    begin-same : Same m (begin m r) r rows
-    unfolding flatMap allFit sectionsOf
-    begin-same =
-        let (s, one, size, fits-field, field-fits) = section-size payload edit (r .tag) r rows low ok oks in
-        let ss : List Section = sectionsOf payload edit rows in
-        let sections : sectionsOf payload edit (r ∷ rows) ≡ s ∷ ss = ap (λ (l : List Section). l ++ ss) one in
-        let rest : length (flatMap encodeSection (sectionsOf payload edit (r ∷ rows))) ≡ length (encodeSection s) + length (flatMap encodeSection ss) =
-        ap (λ (l : List Section). length (flatMap encodeSection l)) sections ∙ length-append (encodeSection s) (flatMap encodeSection ss) in
-        let whole : total m (r ∷ rows) ≡ before + (aligned (headed + entriesSize (entryTag (r .tag)) rows) + length (flatMap encodeSection ss)) = omega (arith, rest, size, ap aligned ended) in
-        let joined : before ≤ limit → headed ≤ limit → total (begin m r) rows ≡ total m (r ∷ rows) =
-        λ b h. rw (capped-small before b, capped-small headed h) (sym whole) in
-        record {
-          back = λ f.
-              let entries : ℕ = entriesSize (entryTag (r .tag)) rows in
-              let b : before ≤ limit = small-capped before (omega (arith, f .small)) in
-              let h : headed ≤ limit = small-capped headed (omega (arith, f .small, le-aligned (capped headed + entries))) in
-              let same : capped headed ≡ headed = capped-small headed h in (
+      begin-same : Same m (begin m t r) r rows
+      unfolding flatMap allCountable sectionsOf
+      begin-same =
+          let (s, one, size, fits-field, field-fits) = section-size payload edit t r rows begins ok oks in
+          let ss : List Section = sectionsOf payload edit rows in
+          let first : begun payload edit (tagOf (r .tag)) r rows ≡ s ∷ [] = rw is one in
+          let sections : sectionsOf payload edit (r ∷ rows) ≡ s ∷ ss = ap (λ (l : List Section). l ++ ss) first in
+          let rest : length (flatMap encodeSection (sectionsOf payload edit (r ∷ rows))) ≡ length (encodeSection s) + length (flatMap encodeSection ss) =
+          ap (λ (l : List Section). length (flatMap encodeSection l)) sections ∙ length-append (encodeSection s) (flatMap encodeSection ss) in
+          let whole : total m (r ∷ rows) ≡ before + (aligned (headed + entriesSize (entryTag t) rows) + length (flatMap encodeSection ss)) = omega (arith, rest, size, ap aligned ended) in
+          let joined : before ≤ limit → headed ≤ limit → total (begin m t r) rows ≡ total m (r ∷ rows) =
+          λ b h. rw (capped-small before b, capped-small headed h) (sym whole) in
+          record {
+            back = λ f.
+                let entries : ℕ = entriesSize (entryTag t) rows in
+                let b : before ≤ limit = small-capped before (omega (arith, f .small)) in
+                let h : headed ≤ limit = small-capped headed (omega (arith, f .small, le-aligned (capped headed + entries))) in
+                let same : capped headed ≡ headed = capped-small headed h in (
+                  record {
+                    few = rw sections (omega (arith, f .few));
+                    narrow = f .narrow;
+                    entries = λ q. rw ended (sound (f .narrow) q);
+                    all = rw (sections, field-fits (λ q. omega (arith, same, f .entries q))) (f .all);
+                    small = rw (← joined b h) (f .small);
+                  },
+                  joined b h,
+                );
+            forth = λ f.
+                let entries : ℕ = entriesSize (entryTag t) rows in
+                let (this, others) = and-eq-true-iff (countable s) (allCountable ss) .0 (rw sections at (f .all)) in
+                let b : before ≤ limit = omega (arith, f .small, whole) in
+                let h : headed ≤ limit = omega (arith, f .small, whole, le-aligned (headed + entries)) in
                 record {
-                  few = rw sections (omega (arith, f .few));
+                  few = omega (arith, rw sections at (f .few));
                   narrow = f .narrow;
-                  entries = λ q. rw ended (sound (f .narrow) q);
-                  all = rw (sections, field-fits (λ q. omega (arith, same, f .entries q))) (f .all);
-                  small = rw (← joined b h) (f .small);
-                },
-                joined b h,
-              );
-          forth = λ f.
-              let entries : ℕ = entriesSize (entryTag (r .tag)) rows in
-              let (this, others) = and-eq-true-iff (entriesFit s) (allFit ss) .0 (rw sections at (f .all)) in
-              let b : before ≤ limit = omega (arith, f .small, whole) in
-              let h : headed ≤ limit = omega (arith, f .small, whole, le-aligned (headed + entries)) in
-              record {
-                few = omega (arith, rw sections at (f .few));
-                narrow = f .narrow;
-                entries = λ q. rw (capped-small headed h) (fits-field this q);
-                all = others;
-                small = rw (joined b h) (f .small);
-              };
-          sound = λ e q. let eighteen = names-begin (r .tag) low q r in rw (eighteen, capped-small 18 (omega arith)) (omega arith);
-        }
+                  entries = λ q. rw (capped-small headed h) (fits-field this q);
+                  all = others;
+                  small = rw (joined b h) (f .small);
+                };
+            sound = λ e q. let eighteen = names-begin t begins q r in rw (eighteen, capped-small 18 (omega arith)) (omega arith);
+          }
 
   -- ---- rows
 
-  next-tag : (m : Sizes) (r : Row) → advance m r .previous ≡ r .tag
+  next-tag : (m : Sizes) (r : Row) → advance m r .previous ≡ tagOf (r .tag)
   unfolding advance
-  next-tag m r = go (ltb (r .tag) 5)
+  next-tag m r = go (beginsSection (tagOf (r .tag)))
     where
-      go : (b : Bool) → cond b (begin m r) (extend m r) .previous ≡ r .tag
+      go : (b : Bool) → cond b (begin m (tagOf (r .tag)) r) (extend m (tagOf (r .tag)) r) .previous ≡ tagOf (r .tag)
       go true = refl
       go false = refl
 
   advance-same : (m : Sizes) (r : Row) (rows : List Row) → checkRows payload edit (m .previous) (r ∷ rows) ≡ good tt → Sound m → Same m (advance m r) r rows
   unfolding advance
-  advance-same m r rows e sound = go (ltb (r .tag) 5) refl
+  advance-same m r rows e sound = go (beginsSection (tagOf (r .tag))) refl
     where
-      go : (b : Bool) → ltb (r .tag) 5 ≡ b → Same m (cond b (begin m r) (extend m r)) r rows
-      go true low =
+      go : (b : Bool) → beginsSection (tagOf (r .tag)) ≡ b → Same m (cond b (begin m (tagOf (r .tag)) r) (extend m (tagOf (r .tag)) r)) r rows
+      go true begins =
           let (rule, ok, rest) = first-ok payload edit (m .previous) r rows e in
-          begin-same m r rows (ltb-true (r .tag) 5 low) ok (rows-ok payload edit (r .tag) rows rest) sound
-      go false high =
+          begin-same m r rows (tagOf (r .tag)) refl begins ok (rows-ok payload edit (tagOf (r .tag)) rows rest) sound
+      go false entry =
           let (rule, ok, rest) = first-ok payload edit (m .previous) r rows e in
-          let h = ltb-false (r .tag) 5 high in
-          extend-same m r rows h (entry-own payload edit (m .previous) r (r .tag) refl h rule)
+          let (own, fixed) = entry-own (m .previous) r (tagOf (r .tag)) entry rule in
+          extend-same m r rows (tagOf (r .tag)) refl entry own fixed
 
   -- what measuring comes to
   abbrev Outcome : Sizes → List Row → Type 0
@@ -222,7 +247,7 @@ module _ (payload edit : List ℕ) where
       (Fit m rows × (measureFrom payload edit m rows ≡ good (total m rows))) ⊎ ((Fit m rows → ⊥) × (measureFrom payload edit m rows ≡ fault WontFit))
 
   ended-outcome : (m : Sizes) → Sound m → Outcome m []
-  unfolding measureFrom finish check flatMap sectionsOf allFit entriesSize sum leading
+  unfolding measureFrom finish check flatMap sectionsOf allCountable entriesSize sum leading
   ended-outcome m sound = go (leb (m .sections) 65535 && not (m .wide) && leb size limit) refl
     where
       size : ℕ
@@ -291,34 +316,34 @@ module _ (payload edit : List ℕ) where
       omega (arith, ap aligned none, aligned-of-multiple 0 refl, length-encode (sectionsOf payload edit rows))
 
   -- the sections fit exactly where the whole does
-  fit-sections : (rows : List Row) → Every (RowOk payload edit) rows → Fit nothing rows → fits (sectionsOf payload edit rows) ≡ true
+  fit-sections : (rows : List Row) → Every (RowOk payload edit) rows → Fit nothing rows → withinLimits (sectionsOf payload edit rows) ≡ true
   fit-sections rows oks f =
-      fits-found (sectionsOf payload edit rows) (omega (arith, f .few)) (f .all) (omega (arith, f .small, main-header rows oks))
+      limits-found (sectionsOf payload edit rows) (omega (arith, f .few)) (f .all) (omega (arith, f .small, main-header rows oks))
 
-  sections-fit : (rows : List Row) → Every (RowOk payload edit) rows → fits (sectionsOf payload edit rows) ≡ true → Fit nothing rows
+  sections-fit : (rows : List Row) → Every (RowOk payload edit) rows → withinLimits (sectionsOf payload edit rows) ≡ true → Fit nothing rows
   sections-fit rows oks e =
-      let (few, all, small) = fits-good (sectionsOf payload edit rows) e in
+      let (few, all, small) = limits-good (sectionsOf payload edit rows) e in
       record {
         few = omega (arith, few);
         narrow = refl;
-        entries = λ q. absurd (omega arith);
+        entries = λ q. let z : _≡_ {A = ℕ} 0 1 = cc in absurd (omega arith);
         all = all;
         small = omega (arith, main-header rows oks, small);
       }
 
   pub measured-is-written : (rows : List Row) → measured (measureFrom payload edit nothing rows) ≡ sized (written payload edit rows)
   unfolding written resolve check
-  measured-is-written rows = go (checkRows payload edit noTag rows) refl
+  measured-is-written rows = go (checkRows payload edit None rows) refl
     where
       ss : List Section
       ss = sectionsOf payload edit rows
 
-      go : (c : Checked (Unit {0})) → checkRows payload edit noTag rows ≡ c → measured (measureFrom payload edit nothing rows) ≡ sized (written payload edit rows)
+      go : (c : Checked (Unit {0})) → checkRows payload edit None rows ≡ c → measured (measureFrom payload edit nothing rows) ≡ sized (written payload edit rows)
       go (fault refusal) e = ap measured (rows-refused refusal rows nothing e) ∙ sym (ap sized (after-fault _ _ (after-fault _ _ e)))
       go (good done) e =
-          let is : written payload edit rows ≡ check (fits ss) WontFit (λ _. good (encode ss)) = after-good _ _ (after-good _ _ e) in
-          let oks = rows-ok payload edit noTag rows e in
+          let is : written payload edit rows ≡ check (withinLimits ss) WontFit (λ _. good (encode ss)) = after-good _ _ (after-good _ _ e) in
+          let oks = rows-ok payload edit None rows e in
           ⊎-elim
           (λ w. rw (w .1, is, fit-sections rows oks (w .0)) (ap Bytes (main-header rows oks)))
-          (λ w. rw (w .1, is, holds-not (fits ss) (λ f. w .0 (sections-fit rows oks f))))
-          (rows-outcome rows nothing e (λ _ q. omega arith))
+          (λ w. rw (w .1, is, holds-not (withinLimits ss) (λ f. w .0 (sections-fit rows oks f))))
+          (rows-outcome rows nothing e (λ _ q. let z : _≡_ {A = ℕ} 0 1 = cc in absurd (omega arith)))

@@ -1,17 +1,21 @@
 -- Measuring, row by row: what the pass over rows keeps, how a row changes it, and what it comes to. That this is the length of what writing gives is a
 -- theorem (proofs/Measured.antt).
-use Prim.Native.Nat.{ℕ, zero, suc, _+_}
+use Prim.Native.Nat.{ℕ, _+_}
 use mathlib.Core.Bool.{Bool, false, cond, not, _&&_, _||_}
 use mathlib.Core.List.{List, [], _∷_}
-use lib.Dec.{leb, ltb, eqb}
+use lib.Dec.{leb, ltb}
 use lib.ListN.{length}
 use Rattle.wire.specs.Length.{wireSize}
 use Rattle.wire.specs.Padding.{aligned}
 use Rattle.layout.specs.Checked.{Checked, fault, good, check, then}
-use Rattle.layout.specs.declared.row.Row.{Row}
+use Rattle.table.specs.Rows.{bytesSpan, textSpan, valueSpan}
+use Rattle.table.specs.Tags.{tagOf, sameTag, beginsSection}
+use Rattle.table.specs.declared.row.Row.{Row}
+use Rattle.table.specs.declared.tag.Tag.{Tag}
+use Rattle.table.specs.declared.tag.Tag.the-variants.{PlainContents, PackedContents, Names, Arguments, Unknown, Content, Name, Pair, None}
 use Rattle.layout.specs.declared.refusal.Refusal.the-variants.{WontFit}
 use Rattle.format.specs.Encoding.{limit}
-use Rattle.format.specs.Rules.{checkRow, noTag}
+use Rattle.format.specs.Rules.{checkRow}
 use Rattle.rows.specs.declared.sizes.Sizes.{Sizes}
 use Rattle.rows.specs.declared.sizes.Measured.{Measured}
 use Rattle.rows.specs.declared.sizes.Measured.the-variants.{Bytes, Refused}
@@ -31,48 +35,55 @@ unfoldable pub capped : ℕ → ℕ
 capped n = cond (leb n limit) n (limit + 1)
 
 -- the bytes of a section that a row of a tag begins, before its entries: its headers, and what a packed or an unknown row stores
-unfoldable pub opened : ℕ → Row → ℕ
-opened zero r = 28
-opened (suc zero) r = 28 + r .c
-opened (suc (suc zero)) r = 18
-opened (suc (suc (suc zero))) r = 20
-opened (suc (suc (suc (suc n)))) r = 8 + r .c
+unfoldable pub opened : Tag → Row → ℕ
+opened PlainContents r = 28
+opened PackedContents r = 28 + bytesSpan r .count
+opened Names r = 18
+opened Arguments r = 20
+opened Unknown r = 8 + bytesSpan r .count
+opened Content r = 0
+opened Name r = 0
+opened Pair r = 0
+opened None r = 0
 
 -- the bytes of the entry that a row of a tag is
-unfoldable pub added : ℕ → Row → ℕ
-added zero r = 0
-added (suc zero) r = 0
-added (suc (suc zero)) r = 0
-added (suc (suc (suc zero))) r = 0
-added (suc (suc (suc (suc zero)))) r = 0
-added (suc (suc (suc (suc (suc zero))))) r = aligned (12 + wireSize (r .b))
-added (suc (suc (suc (suc (suc (suc zero)))))) r = aligned (16 + wireSize (r .b))
-added (suc (suc (suc (suc (suc (suc (suc n))))))) r = wireSize (r .b) + wireSize (r .d)
+unfoldable pub added : Tag → Row → ℕ
+added PlainContents r = 0
+added PackedContents r = 0
+added Names r = 0
+added Arguments r = 0
+added Unknown r = 0
+added Content r = aligned (12 + wireSize (textSpan r .count))
+added Name r = aligned (16 + wireSize (textSpan r .count))
+added Pair r = wireSize (textSpan r .count) + wireSize (valueSpan r .count)
+added None r = 0
 
-abbrev pub sizes : ℕ → ℕ → ℕ → ℕ → Bool → Sizes
+abbrev pub sizes : Tag → ℕ → ℕ → ℕ → Bool → Sizes
 sizes previous sections complete current wide =
     record { previous = previous; sections = sections; complete = complete; current = current; wide = wide }
 
--- a row that begins a section closes the one before
-abbrev pub begin : Sizes → Row → Sizes
-begin m r = sizes (r .tag) (m .sections + 1) (capped (m .complete + aligned (m .current))) (capped (opened (r .tag) r)) (m .wide)
+-- a row of a tag that begins a section closes the one before
+abbrev pub begin : Sizes → Tag → Row → Sizes
+begin m t r = sizes t (m .sections + 1) (capped (m .complete + aligned (m .current))) (capped (opened t r)) (m .wide)
 
 -- the entry bytes of names are counted in 16 bits, after headers of 18
 abbrev pub widest : ℕ
 widest = 18 + 65535
 
 -- an entry adds to the section that is not complete
-abbrev pub extend : Sizes → Row → Sizes
-extend m r =
-    let current : ℕ = capped (m .current + added (r .tag) r) in
-    sizes (r .tag) (m .sections) (m .complete) current (m .wide || (eqb (r .tag) 6 && ltb widest current))
+abbrev pub extend : Sizes → Tag → Row → Sizes
+extend m t r =
+    let current : ℕ = capped (m .current + added t r) in
+    sizes t (m .sections) (m .complete) current (m .wide || (sameTag t Name && ltb widest current))
 
 unfoldable pub advance : Sizes → Row → Sizes
-advance m r = cond (ltb (r .tag) 5) (begin m r) (extend m r)
+advance m r =
+    let t : Tag = tagOf (r .tag) in
+    cond (beginsSection t) (begin m t r) (extend m t r)
 
 -- nothing but the main header
 abbrev pub nothing : Sizes
-nothing = sizes noTag 0 8 0 false
+nothing = sizes None 0 8 0 false
 
 -- the size in the end, within the limits
 unfoldable pub finish : Sizes → Checked ℕ

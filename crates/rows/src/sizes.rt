@@ -3,7 +3,7 @@
 ghost use mathlib.Core.Path.{_≡_};
 ghost use Prim.Native.Nat.{_+_, _<_, _≤_, _^_};
 ghost use Rattle.wire.specs.Padding.{aligned};
-ghost use Rattle.layout.specs.Rows.{rowsOf};
+ghost use Rattle.table.specs.Rows.{rowsOf};
 ghost use Rattle.format.specs.Encoding.{limit};
 ghost use Rattle.format.specs.Write.{writtenTable};
 ghost use Rattle.rows.specs.Measure.{sized, measured, capped, opened, added, advance, nothing, finish, measureFrom};
@@ -11,8 +11,9 @@ use crate::rule::check_row;
 use layout::Check;
 use layout::PAYLOAD_LIMIT;
 use layout::Refusal;
-use layout::Row;
 use layout::SourceInfoSectionType;
+use table::Row;
+use table::Tag;
 use wire::TextLength;
 
 // The most that 16 bits count: sections, and the entry bytes of names.
@@ -21,13 +22,10 @@ const COUNT_LIMIT: usize = 65_535;
 // The most bytes of a names section, without its padding.
 const NAMES_LIMIT: usize = SourceInfoSectionType::NAMES_START + COUNT_LIMIT;
 
-// Stands for the tag of a row before the first: no entry may follow it.
-const NO_TAG: u32 = 8;
-
 // What was measured so far.
 pub struct Sizes {
     // The tag of the row before.
-    pub previous: u32,
+    pub previous: Tag,
     // How many sections there are.
     pub sections: usize,
     // Bytes of the main header and of the sections that are complete.
@@ -63,31 +61,38 @@ fn align(length: usize) -> usize
     length + wire::padding_length(length)
 }
 
-// The bytes of the section that a row begins, before its entries.
-fn opened_size(row: Row) -> usize
-    ensures { λ r. ⌜ r ≡ opened (row .tag) row ⌝ }
+// The bytes of the section that a row of a tag begins, before its entries.
+fn opened_size(tag: Tag, row: Row) -> usize
+    ensures { λ r. ⌜ r ≡ opened tag row ⌝ }
 {
-    let tag = row.tag;
     match tag {
-        0 => SourceInfoSectionType::CONTENTS_START,
-        1 => SourceInfoSectionType::CONTENTS_START + row.c as usize,
-        2 => SourceInfoSectionType::NAMES_START,
-        3 => SourceInfoSectionType::ARGS_START,
-        _ => SourceInfoSectionType::SECTION_HEADER_SIZE + row.c as usize,
+        Tag::PlainContents => SourceInfoSectionType::CONTENTS_START,
+        Tag::PackedContents => SourceInfoSectionType::CONTENTS_START + row.c as usize,
+        Tag::Names => SourceInfoSectionType::NAMES_START,
+        Tag::Arguments => SourceInfoSectionType::ARGS_START,
+        Tag::Unknown => SourceInfoSectionType::SECTION_HEADER_SIZE + row.c as usize,
+        Tag::Content => 0,
+        Tag::Name => 0,
+        Tag::Pair => 0,
+        Tag::None => 0,
     }
 }
 
-// The bytes of the entry that a row is.
-fn added_size(row: Row) -> usize
-    requires { ⌜ 5 ≤ row .tag ⌝ }
-    ensures { λ r. ⌜ r ≡ added (row .tag) row ⌝ }
+// The bytes of the entry that a row of a tag is.
+fn added_size(tag: Tag, row: Row) -> usize
+    ensures { λ r. ⌜ r ≡ added tag row ⌝ }
 {
-    let tag = row.tag;
     let size = TextLength(row.b).wire_size().0;
     match tag {
-        5 => align(SourceInfoSectionType::CONTENT_ENTRY_HEADER_SIZE + size),
-        6 => align(SourceInfoSectionType::NAME_ENTRY_HEADER_SIZE + size),
-        _ => size + TextLength(row.d).wire_size().0,
+        Tag::Content => align(SourceInfoSectionType::CONTENT_ENTRY_HEADER_SIZE + size),
+        Tag::Name => align(SourceInfoSectionType::NAME_ENTRY_HEADER_SIZE + size),
+        Tag::Pair => size + TextLength(row.d).wire_size().0,
+        Tag::PlainContents => 0,
+        Tag::PackedContents => 0,
+        Tag::Names => 0,
+        Tag::Arguments => 0,
+        Tag::Unknown => 0,
+        Tag::None => 0,
     }
 }
 
@@ -99,22 +104,23 @@ impl Sizes {
         requires { ⌜ self .current ≤ limit + 1 ⌝ }
         ensures { λ r. ⌜ r ≡ advance self row ⌝ }
     {
-        if row.tag < 5 {
+        let tag = Tag::from_u32(row.tag);
+        if tag.begins_section() {
             return Sizes {
-                previous: row.tag,
+                previous: tag,
                 sections: self.sections + 1,
                 complete: cap(self.complete + align(self.current)),
-                current: cap(opened_size(row)),
+                current: cap(opened_size(tag, row)),
                 wide: self.wide,
             };
         }
-        let current = cap(self.current + added_size(row));
+        let current = cap(self.current + added_size(tag, row));
         Sizes {
-            previous: row.tag,
+            previous: tag,
             sections: self.sections,
             complete: self.complete,
             current,
-            wide: self.wide | ((row.tag == 6) & (NAMES_LIMIT < current)),
+            wide: self.wide | (tag.same(Tag::Name) & (NAMES_LIMIT < current)),
         }
     }
 
@@ -144,7 +150,7 @@ fn measure_rows(payload: &[u8], edit: &[u8], rows: &[u32]) -> Measured
 {
     let count = rows.len() / Row::WIDTH;
     let mut sizes = Sizes {
-        previous: NO_TAG,
+        previous: Tag::None,
         sections: 0,
         complete: SourceInfoSectionType::MAIN_HEADER_SIZE,
         current: 0,
@@ -153,7 +159,8 @@ fn measure_rows(payload: &[u8], edit: &[u8], rows: &[u32]) -> Measured
     let mut index = 0;
     while index < count {
         let row = Row::load(rows, index);
-        match check_row(payload, edit, sizes.previous, row) {
+        let previous = sizes.previous;
+        match check_row(payload, edit, previous, row) {
             Check::Refused(refusal) => {
                 return Measured::Refused(refusal);
             }

@@ -13,7 +13,7 @@ use base.Fml.{Lft, Share, Fml, ftrue, flft}
 use prog.Wp.{Heap}
 use ghost.Atoms.{Atoms, sem}
 use contract.Monad.{fact}
-use types.Kit.{Given, Item, ‵, raw, _⊛_, ⋆, mean, some, given, later, _$_, _∵_, !, qed, move, drop, use1, use2, split, join, pick, learn, check, fsplit, fjoin, frame, await, updating, now as at-once, show, done}
+use types.Kit.{Given, Item, ‵, raw, _⊛_, ⋆, mean, some, given, later, _$_, _∵_, !, qed, move, drop, use1, use2, split, join, pick, learn, check, fjoin, frame, await, updating, now as at-once, show, done}
 use denote.RattleType.{RattleType, owns}
 use denote.Laws.{Is}
 use denote.Plain.{uint-makes}
@@ -58,12 +58,13 @@ module _ {M : Type 1} (𝓤 : URA M) (H : Heap 𝓤) (A : Atoms 𝓤) (W : Given
       nothing ! $ owned ! usize (Is usize) (uint-makes 𝓤 H A W w64) n _ (refl, fits) $ fjoin ! $ move ! (1 ∷ 0 ∷ []) $ fjoin ! $
       move ! (1 ∷ 0 ∷ []) $ join ! $ frame ! $ done !
 
-  -- both can be had twice, so that a caller which passes its own parameters on keeps them
-  pub keeps : (s : RefT (List ℕ)) (n : ℕ) → n < 2 ^ 64 → ent 𝓤 (⋆ 𝓤 H A (Token ∷ ‵ (Both κ s n) ∷ [])) (sep 𝓤 (Asked s n) (sem 𝓤 H A (Both κ s n)))
+  -- what the slice owns can be had twice, so that a caller which passes it on keeps it
+  pub twice : (s : RefT (List ℕ)) → ent 𝓤 (sem 𝓤 H A (Own κ s)) (⋆ 𝓤 H A (‵ (Own κ s) ∷ ‵ (Own κ s) ∷ []))
+  twice s = shr-slice-copy 𝓤 H A W (named 0) κ u8 .twice s (sliceVal (s .ptr) (length (s .now)) ∷ [])
+
+  pub keeps : (s : RefT (List ℕ)) (n : ℕ) → n < 2 ^ 64 → ent 𝓤 (⋆ 𝓤 H A (‵ (Own κ s) ∷ Token ∷ [])) (⋆ 𝓤 H A (raw (Asked s n) ∷ ‵ (Own κ s) ∷ []))
   keeps s n fits =
-      qed W (Token ∷ ‵ (Both κ s n) ∷ []) ∵ move ! (1 ∷ []) $ fsplit ! $
-      use1 W (‵ (Own κ s) ⊛ ‵ (Own κ s)) (shr-slice-copy 𝓤 H A W (named 0) κ u8 .twice s (sliceVal (s .ptr) (length (s .now)) ∷ [])) $ split ! $
-      move ! (0 ∷ 2 ∷ []) $ fjoin ! $ move ! (1 ∷ 2 ∷ []) $ use2 W (raw (Asked s n)) (asks s n fits) $ frame ! $ done !
+      qed W (‵ (Own κ s) ∷ Token ∷ []) ∵ use1 W (‵ (Own κ s) ⊛ ‵ (Own κ s)) (twice s) $ split ! $ move ! (0 ∷ 2 ∷ []) $ use2 W (raw (Asked s n)) (asks s n fits) $ done !
 
   -- A reader is taken apart for such a call. It is Copy: what it owns is had twice, and one copy is kept whole.
   pub apart : (ℓ : Lifetime) (d : SectionReader) → d .at < 2 ^ 64 → ent 𝓤 (⋆ 𝓤 H A (‵ (Held ℓ κ d) ∷ Token ∷ [])) (sep 𝓤 (Asked (d .payload) (d .at)) (sem 𝓤 H A (Held ℓ κ d)))

@@ -1,3 +1,4 @@
 pub mod Call
+pub mod Lending
 pub mod Loan
 pub mod Taken

@@ -2,10 +2,8 @@
 use Prim.Native.Nat.{ℕ, _+_}
 use mathlib.Core.List.{List}
 use denote.Ref.{now}
-use Rattle.wire.specs.Number.{u16At}
 use Rattle.layout.specs.Checked.{Checked, fault, good}
-use Rattle.layout.specs.Kinds.{sectionType}
-use Rattle.format.specs.Parse.{frame}
+use Rattle.format.specs.Parse.{frame, kindAt}
 use Rattle.section_reader.specs.declared.section.MaybeSection.{MaybeSection}
 use Rattle.section_reader.specs.declared.section.MaybeSection.the-variants.{Found, Refused}
 use Rattle.section_reader.specs.declared.section.Taken.{Taken}
@@ -14,7 +12,7 @@ use Rattle.section_reader.specs.declared.reader.SectionReader.{SectionRe
 -- the section of a size at a place, with the kind that its header says; or the fault
 abbrev pub sectionFound : List ℕ → ℕ → Checked ℕ → MaybeSection
 sectionFound p at (fault refusal) = Refused refusal
-sectionFound p at (good size) = Found (record { kind = sectionType (u16At p (at + 6)); at = at; size = size })
+sectionFound p at (good size) = Found (record { kind = kindAt p at; at = at; size = size })
 
 -- the place after a section of a size; at a fault the place stays
 abbrev pub placeAfter : ℕ → Checked ℕ → ℕ

@@ -7,8 +7,5 @@ mod reader;
 mod section;
 
 pub use reader::SectionReader;
-pub use reader::bytes_left;
-pub use reader::next_section;
 pub use section::MaybeSection;
 pub use section::Section;
-pub use section::Taken;

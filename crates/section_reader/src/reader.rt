@@ -1,11 +1,9 @@
-// The reader: a payload and a place in it. Each function over it is thin, and leaves the work to section.rt; the
-// last two take a plain slice and a number, so that callers need no reader.
+// The reader: a payload and a place in it. Each function over it is thin, and leaves the work to section.rt.
 ghost use mathlib.Core.Path.{_≡_};
 ghost use lib.Dec.{ltb};
 ghost use lib.ListN.{length};
 ghost use Rattle.section_reader.specs.Section.{taken, movedOn};
 use crate::section::MaybeSection;
-use crate::section::Taken;
 use crate::section::left_at;
 use crate::section::take_at;
 
@@ -36,23 +34,4 @@ impl<'a> SectionReader<'a> {
     {
         left_at(self.payload, self.at)
     }
-}
-
-// What a reader at a place takes, and where it then stands.
-pub fn next_section(payload: &[u8], at: usize) -> Taken
-    ensures { λ r. ⌜ r ≡ taken (now (payload .entry)) at ⌝ }
-{
-    let mut reader = SectionReader::new(payload, at);
-    let section = reader.next();
-    Taken {
-        section,
-        next: reader.at,
-    }
-}
-
-// Whether bytes are left for a reader at a place.
-pub fn bytes_left(payload: &[u8], at: usize) -> bool
-    ensures { λ r. ⌜ r ≡ ltb at (length (now (payload .entry))) ⌝ }
-{
-    SectionReader::new(payload, at).has_left()
 }

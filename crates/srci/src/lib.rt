@@ -18,16 +18,9 @@ fn tell(answer: Answer, second: &mut u32) -> u32
     ensures { λ r. ⌜ r ≡ answerNumber answer ⌝ }
     ensures { λ _. ⌜ now (second .exit) ≡ answerSecond answer ⌝ }
 {
-    match answer {
-        Answer::Accepted(stored) => {
-            *second = stored;
-            0
-        }
-        Answer::Refused(refusal) => {
-            *second = refusal.second();
-            refusal.number()
-        }
-    }
+    let told = answer.second();
+    *second = told;
+    answer.number()
 }
 
 // Reads a payload into the rows of a lent table. Answers 0, or the refusal's number. Stores in `second`

@@ -35,7 +35,7 @@ ascending ((r ∷ rs) ∷ rest) = above (r .high) rest && ascending rest
 not-within : (r : Range) (b : ℕ) → b < r .low → within r b ≡ false
 not-within r b h = ap (λ (t : Bool). t && leb b (r .high)) (lt-leb (r .low) b h)
 
-within-high : (r : Range) (b : ℕ) → within r b ≡ true → b ≤ r .high
+pub within-high : (r : Range) (b : ℕ) → within r b ≡ true → b ≤ r .high
 within-high r b = go (leb (r .low) b)
   where
     go : (t : Bool) → (t && leb b (r .high)) ≡ true → b ≤ r .high

@@ -1,4 +1,5 @@
 pub mod Alternatives
+pub mod Bytes
 pub mod ClassTable
 pub mod Laws
 pub mod Octets

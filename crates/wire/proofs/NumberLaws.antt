@@ -78,6 +78,13 @@ unfolding bytesOf
 length-bytesOf zero n = refl
 length-bytesOf (suc w) n = ap suc (length-bytesOf w (n / 256))
 
+-- each of a number's bytes is below 256
+pub bytesOf-below : (w n k : ℕ) → getD (bytesOf w n) k 0 < 256
+unfolding bytesOf
+bytesOf-below zero n k = lit< tt
+bytesOf-below (suc w) n zero = mod-lt n (lit< tt)
+bytesOf-below (suc w) n (suc k) = bytesOf-below w (n / 256) k
+
 -- a number's bytes are its low bytes, and then its high ones
 pub bytesOf-add : (v w n : ℕ) → bytesOf (v + w) n ≡ bytesOf v n ++ bytesOf w (n / 256 ^ v)
 unfolding bytesOf

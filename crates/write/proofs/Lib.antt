@@ -1,8 +1,10 @@
+pub mod Again
 pub mod Lent
+pub mod Locals
 pub mod Moving
-pub mod RowBytes
 pub mod RunLaws
 pub mod SectionLaws
 pub mod SectionParts
 pub mod SectionStored
 pub mod Stored
+pub mod Turns

@@ -4,9 +4,12 @@ use mathlib.Core.Bool.{true}
 use mathlib.Core.List.{List}
 use mathlib.Core.Path.{_≡_}
 use lib.ListN.{length, getD}
-use Rattle.layout.specs.Rows.{noRow}
-use Rattle.layout.specs.declared.row.Row.{Row}
-use Rattle.format.specs.Encoding.{limit, kindOf, encodeSection, entriesFit}
+use Rattle.table.specs.Rows.{noRow}
+use Rattle.layout.specs.Kinds.{kindNumber}
+use Rattle.table.specs.Tags.{tagOf}
+use Rattle.table.specs.declared.row.Row.{Row}
+use Rattle.table.specs.declared.tag.Tag.{Tag}
+use Rattle.format.specs.Encoding.{limit, kindOf, encodeSection, countable}
 use Rattle.write.specs.declared.position.Position.{Position}
 use Rattle.write.specs.Section.{sectionAt, nextSection}
 
@@ -23,10 +26,10 @@ abbrev pub past : List ℕ → List ℕ → List Row → Position → Position
 past payload edit rows p = record { index = nextSection rows (p .index); at = p .at + length (sectionBytes payload edit rows p) }
 
 -- the row at a position is of a tag, and the section that it begins fits its fields and the limit
-abbrev pub Writable : List ℕ → List ℕ → List Row → ℕ → Position → Type 0
-Writable payload edit rows tag p =
+abbrev pub Writable : List ℕ → List ℕ → List Row → Tag → Position → Type 0
+Writable payload edit rows t p =
     (p .index < length rows)
-    × (getD rows (p .index) noRow .tag ≡ tag)
-    × (kindOf (sectionAt payload edit rows (p .index)) ≤ 65535)
-    × (entriesFit (sectionAt payload edit rows (p .index)) ≡ true)
+    × (tagOf (getD rows (p .index) noRow .tag) ≡ t)
+    × (kindNumber (kindOf (sectionAt payload edit rows (p .index))) ≤ 65535)
+    × (countable (sectionAt payload edit rows (p .index)) ≡ true)
     × (p .at + length (sectionBytes payload edit rows p) ≤ limit)

@@ -1,33 +1,36 @@
 -- Sections as rows have them: the section that a row begins, with the rows of its entries, and what stands before and after its stored bytes.
-use Prim.Native.Nat.{ℕ, zero, suc, _+_}
-use mathlib.Core.List.{List, _++_}
+use Prim.Native.Nat.{ℕ, _+_}
+use mathlib.Core.List.{List, [], _++_}
 use lib.ListN.{length, getD, drop, replicate}
 use Rattle.wire.specs.Padding.{padding}
-use Rattle.layout.specs.Rows.{noRow}
-use Rattle.layout.specs.declared.row.Row.{Row}
+use Rattle.table.specs.Rows.{noRow}
+use Rattle.table.specs.Tags.{tagOf}
+use Rattle.table.specs.declared.row.Row.{Row}
+use Rattle.table.specs.declared.tag.Tag.{Tag}
+use Rattle.table.specs.declared.tag.Tag.the-variants as tag
 use Rattle.format.specs.Encoding.{u16, u32}
-use Rattle.format.specs.Resolve.{leading, at, contentOf, nameOf, pairOf}
-use Rattle.format.specs.Sections.{Section, plain, packed, names, arguments, unknown}
+use Rattle.format.specs.Resolve.{leading, begun}
+use Rattle.format.specs.Sections.{Section, unknown}
 
--- the section that a row of a tag begins, where some rows follow it; a tag past 4 counts as 4
-unfoldable pub sectionFrom : List ℕ → List ℕ → ℕ → Row → List Row → Section
-sectionFrom payload edit zero r rows = plain (r .a) (leading 5 (contentOf payload edit) rows)
-sectionFrom payload edit (suc zero) r rows = packed (r .a) (at payload edit r (r .b) (r .c)) (r .d) (r .e)
-sectionFrom payload edit (suc (suc zero)) r rows = names (leading 6 (nameOf payload edit) rows)
-sectionFrom payload edit (suc (suc (suc zero))) r rows = arguments (leading 7 (pairOf payload edit) rows)
-sectionFrom payload edit (suc (suc (suc (suc n)))) r rows = unknown (r .a) (at payload edit r (r .b) (r .c))
+-- the section that a row of a tag begins, where some rows follow it; one that is never written stands for that of a row that begins none
+abbrev pub sectionFrom : List ℕ → List ℕ → Tag → Row → List Row → Section
+sectionFrom payload edit t r rows = getD (begun payload edit t r rows) 0 (unknown 0 [])
 
 -- how many rows of a tag stand at the start of some rows
-abbrev pub entryCount : ℕ → List Row → ℕ
-entryCount tag rows = length (leading tag (λ (r : Row). r) rows)
+abbrev pub entryCount : Tag → List Row → ℕ
+entryCount t rows = length (leading t (λ (r : Row). r) rows)
 
 -- how many rows after a section's own are its entries, by its tag
-abbrev pub entriesOf : ℕ → List Row → ℕ
-entriesOf zero rows = entryCount 5 rows
-entriesOf (suc zero) rows = 0
-entriesOf (suc (suc zero)) rows = entryCount 6 rows
-entriesOf (suc (suc (suc zero))) rows = entryCount 7 rows
-entriesOf (suc (suc (suc (suc n)))) rows = 0
+abbrev pub entriesOf : Tag → List Row → ℕ
+entriesOf tag.PlainContents rows = entryCount tag.Content rows
+entriesOf tag.PackedContents rows = 0
+entriesOf tag.Names rows = entryCount tag.Name rows
+entriesOf tag.Arguments rows = entryCount tag.Pair rows
+entriesOf tag.Unknown rows = 0
+entriesOf tag.Content rows = 0
+entriesOf tag.Name rows = 0
+entriesOf tag.Pair rows = 0
+entriesOf tag.None rows = 0
 
 -- a section header: a size, flags, a kind
 abbrev pub sectionHeader : ℕ → ℕ → List ℕ
@@ -46,7 +49,7 @@ contentsHeader field compression bytes uncompressed count =
 abbrev pub sectionAt : List ℕ → List ℕ → List Row → ℕ → Section
 sectionAt payload edit rows index =
     let r : Row = getD rows index noRow in
-    sectionFrom payload edit (r .tag) r (drop (index + 1) rows)
+    sectionFrom payload edit (tagOf (r .tag)) r (drop (index + 1) rows)
 
 abbrev pub nextSection : List Row → ℕ → ℕ
-nextSection rows index = index + 1 + entriesOf (getD rows index noRow .tag) (drop (index + 1) rows)
+nextSection rows index = index + 1 + entriesOf (tagOf (getD rows index noRow .tag)) (drop (index + 1) rows)

@@ -3,29 +3,33 @@ ghost use mathlib.Core.Path.{_≡_};
 ghost use Prim.Native.Nat.{_+_, _-_, _≤_};
 ghost use lib.Seq.{sets};
 ghost use Rattle.wire.specs.Padding.{aligned};
-ghost use Rattle.layout.specs.Rows.{rowsOf};
+ghost use Rattle.layout.specs.Kinds.{kindNumber, compressionNumber};
+ghost use Rattle.table.specs.Rows.{rowsOf};
+ghost use Rattle.table.specs.declared.tag.Tag.the-variants as tag;
 ghost use Rattle.format.specs.Encoding.{limit};
 ghost use Rattle.write.specs.Position.{Writable, past, sectionBytes};
 ghost use Rattle.write.specs.Section.{sectionHeader, zerosAfter, contentsHeader};
 use crate::position::Position;
 use crate::run::write_run;
-use layout::Row;
+use layout::SourceCompression;
 use layout::SourceInfoSectionType;
 use layout::bytes_of;
+use table::Row;
+use table::Tag;
 
 // A section header at `start`, and zeros from `end` on up to a multiple of 4. Answers the place after them.
-fn write_frame(output: &mut [u8], start: usize, end: usize, kind: u16) -> usize
+fn write_frame(output: &mut [u8], start: usize, end: usize, kind: SourceInfoSectionType) -> usize
     requires { ⌜ start ≤ end ⌝ }
     requires { ⌜ start + aligned (end - start) ≤ limit ⌝ }
     ensures { λ r. ⌜ r ≡ start + aligned (end - start) ⌝ }
-    ensures { λ _. ⌜ now (output .exit) ≡ sets (sets (now (output .entry)) start (sectionHeader (aligned (end - start)) kind)) end (zerosAfter (end - start)) ⌝ }
+    ensures { λ _. ⌜ now (output .exit) ≡ sets (sets (now (output .entry)) start (sectionHeader (aligned (end - start)) (kindNumber kind))) end (zerosAfter (end - start)) ⌝ }
 {
     let length = end - start;
     let zeros = wire::padding_length(length);
     let size = length + zeros;
     wire::write_u32(output, start, size as u32);
     wire::write_u16(output, start + 4, 0);
-    wire::write_u16(output, start + 6, kind);
+    wire::write_u16(output, start + 6, kind.to_u16());
     wire::write_zeros(output, end, zeros);
     start + size
 }
@@ -35,17 +39,17 @@ fn write_contents_header(
     output: &mut [u8],
     at: usize,
     field: u32,
-    compression: u16,
+    compression: SourceCompression,
     bytes: u32,
     uncompressed: u32,
     count: u32,
 )
     requires { ⌜ at + 20 ≤ limit ⌝ }
-    ensures { λ _. ⌜ now (output .exit) ≡ sets (now (output .entry)) at (contentsHeader field compression bytes uncompressed count) ⌝ }
+    ensures { λ _. ⌜ now (output .exit) ≡ sets (now (output .entry)) at (contentsHeader field (compressionNumber compression) bytes uncompressed count) ⌝ }
 {
     wire::write_u32(output, at, field);
     wire::write_u16(output, at + 4, 0);
-    wire::write_u16(output, at + 6, compression);
+    wire::write_u16(output, at + 6, compression.to_u16());
     wire::write_u32(output, at + 8, bytes);
     wire::write_u32(output, at + 12, uncompressed);
     wire::write_u32(output, at + 16, count);
@@ -59,20 +63,20 @@ pub fn store_names<'a>(
     output: &mut [u8],
     position: Position,
 ) -> Position
-    requires { ⌜ Writable (now payload) (now edit) (rowsOf (now rows)) 2 position ⌝ }
+    requires { ⌜ Writable (now payload) (now edit) (rowsOf (now rows)) tag.Names position ⌝ }
     ensures { λ r. ⌜ r ≡ past (now (payload .entry)) (now (edit .entry)) (rowsOf (now (rows .entry))) position ⌝ }
     ensures { λ _. ⌜ now (output .exit) ≡ sets (now (output .entry)) (position .at) (sectionBytes (now (payload .entry)) (now (edit .entry)) (rowsOf (now (rows .entry))) position) ⌝ }
 {
     let start = position.at;
     let first = position.index + 1;
     let entries = start + SourceInfoSectionType::NAMES_START;
-    let run = write_run(payload, edit, rows, 6, first, output, entries);
+    let run = write_run(payload, edit, rows, Tag::Name, first, output, entries);
     let end = run.at;
     let index = run.index;
     wire::write_u32(output, start + 8, 0);
     wire::write_u32(output, start + 12, (index - first) as u32);
     wire::write_u16(output, start + 16, (end - entries) as u16);
-    let at = write_frame(output, start, end, 1);
+    let at = write_frame(output, start, end, SourceInfoSectionType::SourceNames);
     Position { index, at }
 }
 
@@ -84,20 +88,20 @@ pub fn store_arguments<'a>(
     output: &mut [u8],
     position: Position,
 ) -> Position
-    requires { ⌜ Writable (now payload) (now edit) (rowsOf (now rows)) 3 position ⌝ }
+    requires { ⌜ Writable (now payload) (now edit) (rowsOf (now rows)) tag.Arguments position ⌝ }
     ensures { λ r. ⌜ r ≡ past (now (payload .entry)) (now (edit .entry)) (rowsOf (now (rows .entry))) position ⌝ }
     ensures { λ _. ⌜ now (output .exit) ≡ sets (now (output .entry)) (position .at) (sectionBytes (now (payload .entry)) (now (edit .entry)) (rowsOf (now (rows .entry))) position) ⌝ }
 {
     let start = position.at;
     let first = position.index + 1;
     let pairs = start + SourceInfoSectionType::ARGS_START;
-    let run = write_run(payload, edit, rows, 7, first, output, pairs);
+    let run = write_run(payload, edit, rows, Tag::Pair, first, output, pairs);
     let end = run.at;
     let index = run.index;
     wire::write_u32(output, start + 8, 0);
     wire::write_u32(output, start + 12, (end - pairs) as u32);
     wire::write_u32(output, start + 16, (index - first) as u32);
-    let at = write_frame(output, start, end, 2);
+    let at = write_frame(output, start, end, SourceInfoSectionType::Arguments);
     Position { index, at }
 }
 
@@ -109,7 +113,7 @@ pub fn store_plain<'a>(
     output: &mut [u8],
     position: Position,
 ) -> Position
-    requires { ⌜ Writable (now payload) (now edit) (rowsOf (now rows)) 0 position ⌝ }
+    requires { ⌜ Writable (now payload) (now edit) (rowsOf (now rows)) tag.PlainContents position ⌝ }
     ensures { λ r. ⌜ r ≡ past (now (payload .entry)) (now (edit .entry)) (rowsOf (now (rows .entry))) position ⌝ }
     ensures { λ _. ⌜ now (output .exit) ≡ sets (now (output .entry)) (position .at) (sectionBytes (now (payload .entry)) (now (edit .entry)) (rowsOf (now (rows .entry))) position) ⌝ }
 {
@@ -117,20 +121,20 @@ pub fn store_plain<'a>(
     let row = Row::load(rows, position.index);
     let first = position.index + 1;
     let entries = start + SourceInfoSectionType::CONTENTS_START;
-    let run = write_run(payload, edit, rows, 5, first, output, entries);
+    let run = write_run(payload, edit, rows, Tag::Content, first, output, entries);
     let end = run.at;
     let index = run.index;
     let bytes = (end - entries) as u32;
     write_contents_header(
         output,
-        start + 8,
+        start + SourceInfoSectionType::SECTION_HEADER_SIZE,
         row.a,
-        0,
+        SourceCompression::None,
         bytes,
         bytes,
         (index - first) as u32,
     );
-    let at = write_frame(output, start, end, 0);
+    let at = write_frame(output, start, end, SourceInfoSectionType::SourceContents);
     Position { index, at }
 }
 
@@ -142,7 +146,7 @@ pub fn store_packed<'a>(
     output: &mut [u8],
     position: Position,
 ) -> Position
-    requires { ⌜ Writable (now payload) (now edit) (rowsOf (now rows)) 1 position ⌝ }
+    requires { ⌜ Writable (now payload) (now edit) (rowsOf (now rows)) tag.PackedContents position ⌝ }
     ensures { λ r. ⌜ r ≡ past (now (payload .entry)) (now (edit .entry)) (rowsOf (now (rows .entry))) position ⌝ }
     ensures { λ _. ⌜ now (output .exit) ≡ sets (now (output .entry)) (position .at) (sectionBytes (now (payload .entry)) (now (edit .entry)) (rowsOf (now (rows .entry))) position) ⌝ }
 {
@@ -154,14 +158,19 @@ pub fn store_packed<'a>(
     wire::write_bytes(output, stored, stream);
     write_contents_header(
         output,
-        start + 8,
+        start + SourceInfoSectionType::SECTION_HEADER_SIZE,
         row.a,
-        1,
+        SourceCompression::Zlib,
         stream.len() as u32,
         row.e,
         row.d,
     );
-    let at = write_frame(output, start, stored + stream.len(), 0);
+    let at = write_frame(
+        output,
+        start,
+        stored + stream.len(),
+        SourceInfoSectionType::SourceContents,
+    );
     Position { index, at }
 }
 
@@ -173,7 +182,7 @@ pub fn store_unknown<'a>(
     output: &mut [u8],
     position: Position,
 ) -> Position
-    requires { ⌜ Writable (now payload) (now edit) (rowsOf (now rows)) 4 position ⌝ }
+    requires { ⌜ Writable (now payload) (now edit) (rowsOf (now rows)) tag.Unknown position ⌝ }
     ensures { λ r. ⌜ r ≡ past (now (payload .entry)) (now (edit .entry)) (rowsOf (now (rows .entry))) position ⌝ }
     ensures { λ _. ⌜ now (output .exit) ≡ sets (now (output .entry)) (position .at) (sectionBytes (now (payload .entry)) (now (edit .entry)) (rowsOf (now (rows .entry))) position) ⌝ }
 {
@@ -183,6 +192,11 @@ pub fn store_unknown<'a>(
     let bytes = bytes_of(payload, edit, row.side, row.b, row.c);
     let stored = start + SourceInfoSectionType::SECTION_HEADER_SIZE;
     wire::write_bytes(output, stored, bytes);
-    let at = write_frame(output, start, stored + bytes.len(), row.a as u16);
+    let at = write_frame(
+        output,
+        start,
+        stored + bytes.len(),
+        SourceInfoSectionType::Unknown(row.a as u16),
+    );
     Position { index, at }
 }

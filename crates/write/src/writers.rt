@@ -2,7 +2,8 @@
 // position on past it.
 ghost use mathlib.Core.Path.{_≡_};
 ghost use lib.Seq.{sets};
-ghost use Rattle.layout.specs.Rows.{rowsOf};
+ghost use Rattle.table.specs.Rows.{rowsOf};
+ghost use Rattle.table.specs.declared.tag.Tag.the-variants as tag;
 ghost use Rattle.write.specs.Position.{Writable, past, sectionBytes};
 use crate::position::Position;
 use crate::section::store_arguments;
@@ -19,7 +20,7 @@ pub fn write_arguments<'a>(
     output: &mut [u8],
     position: &mut Position,
 )
-    requires { ⌜ Writable (now payload) (now edit) (rowsOf (now rows)) 3 (now position) ⌝ }
+    requires { ⌜ Writable (now payload) (now edit) (rowsOf (now rows)) tag.Arguments (now position) ⌝ }
     ensures { λ _. ⌜ now (position .exit) ≡ past (now (payload .entry)) (now (edit .entry)) (rowsOf (now (rows .entry))) (now (position .entry)) ⌝ }
     ensures { λ _. ⌜ now (output .exit) ≡ sets (now (output .entry)) (now (position .entry) .at) (sectionBytes (now (payload .entry)) (now (edit .entry)) (rowsOf (now (rows .entry))) (now (position .entry))) ⌝ }
 {
@@ -34,7 +35,7 @@ pub fn write_names<'a>(
     output: &mut [u8],
     position: &mut Position,
 )
-    requires { ⌜ Writable (now payload) (now edit) (rowsOf (now rows)) 2 (now position) ⌝ }
+    requires { ⌜ Writable (now payload) (now edit) (rowsOf (now rows)) tag.Names (now position) ⌝ }
     ensures { λ _. ⌜ now (position .exit) ≡ past (now (payload .entry)) (now (edit .entry)) (rowsOf (now (rows .entry))) (now (position .entry)) ⌝ }
     ensures { λ _. ⌜ now (output .exit) ≡ sets (now (output .entry)) (now (position .entry) .at) (sectionBytes (now (payload .entry)) (now (edit .entry)) (rowsOf (now (rows .entry))) (now (position .entry))) ⌝ }
 {
@@ -49,7 +50,7 @@ pub fn write_plain<'a>(
     output: &mut [u8],
     position: &mut Position,
 )
-    requires { ⌜ Writable (now payload) (now edit) (rowsOf (now rows)) 0 (now position) ⌝ }
+    requires { ⌜ Writable (now payload) (now edit) (rowsOf (now rows)) tag.PlainContents (now position) ⌝ }
     ensures { λ _. ⌜ now (position .exit) ≡ past (now (payload .entry)) (now (edit .entry)) (rowsOf (now (rows .entry))) (now (position .entry)) ⌝ }
     ensures { λ _. ⌜ now (output .exit) ≡ sets (now (output .entry)) (now (position .entry) .at) (sectionBytes (now (payload .entry)) (now (edit .entry)) (rowsOf (now (rows .entry))) (now (position .entry))) ⌝ }
 {
@@ -64,7 +65,7 @@ pub fn write_packed<'a>(
     output: &mut [u8],
     position: &mut Position,
 )
-    requires { ⌜ Writable (now payload) (now edit) (rowsOf (now rows)) 1 (now position) ⌝ }
+    requires { ⌜ Writable (now payload) (now edit) (rowsOf (now rows)) tag.PackedContents (now position) ⌝ }
     ensures { λ _. ⌜ now (position .exit) ≡ past (now (payload .entry)) (now (edit .entry)) (rowsOf (now (rows .entry))) (now (position .entry)) ⌝ }
     ensures { λ _. ⌜ now (output .exit) ≡ sets (now (output .entry)) (now (position .entry) .at) (sectionBytes (now (payload .entry)) (now (edit .entry)) (rowsOf (now (rows .entry))) (now (position .entry))) ⌝ }
 {
@@ -79,7 +80,7 @@ pub fn write_unknown<'a>(
     output: &mut [u8],
     position: &mut Position,
 )
-    requires { ⌜ Writable (now payload) (now edit) (rowsOf (now rows)) 4 (now position) ⌝ }
+    requires { ⌜ Writable (now payload) (now edit) (rowsOf (now rows)) tag.Unknown (now position) ⌝ }
     ensures { λ _. ⌜ now (position .exit) ≡ past (now (payload .entry)) (now (edit .entry)) (rowsOf (now (rows .entry))) (now (position .entry)) ⌝ }
     ensures { λ _. ⌜ now (output .exit) ≡ sets (now (output .entry)) (now (position .entry) .at) (sectionBytes (now (payload .entry)) (now (edit .entry)) (rowsOf (now (rows .entry))) (now (position .entry))) ⌝ }
 {

@@ -1,41 +1,28 @@
--- `listing::list` meets its contract: of an accepted payload what the walk finds is the listing, which the second writing stores where there is room.
+-- `listing::list` meets its contract: the listing is measured, and stored where there is room.
 -- Assumes nothing.
-use Prim.Native.Nat.{ℕ}
-use mathlib.Core.List.{List, []}
-use mathlib.Core.Path.{_≡_, sym, _∙_}
+use mathlib.Core.Path.{sym, ap, _∙_}
 use native.Mathlib.Omega.{arith}
 use borrow.Author.Needs.{needs}
 use denote.Ref.{now}
-use Rattle.layout.specs.Checked.{fault, good}
-use Rattle.layout.specs.declared.refusal.Refusal.{Refusal}
-use Rattle.layout.proofs.Checked.{after-fault}
+use Rattle.layout.specs.Checked.{isGood}
+use Rattle.format.specs.Listing.{listAnswer, listOutput}
 use Rattle.format.specs.Parse.{parse}
-use Rattle.format.specs.Listing.{listed, listAnswer, listOutput}
-use Rattle.format.specs.Lines.{listing}
-use Rattle.format.proofs.LinesFound.{listing-found}
-use Rattle.format.proofs.Output.{refused, told-no-room, told-room}
+use Rattle.format.specs.Read.{accepted}
+use Rattle.format.specs.Secrecy.{AcceptedPayload}
+use Rattle.format.proofs.Measured.{listing-by-walk, met-refused, met-short, met-stored}
 use Rattle.parse.proofs.Outcomes.{rows-counted, rows-refused}
-use Rattle.wire.proofs.Sets.{sets-past}
 use Rattle.listing.proofs.list.Statement.{statement}
 use Rattle.listing.proofs.list.Tie as tie
 
--- what the walk over an accepted payload finds
-made : (c : tie.After-enum-told) → (let a = c .before .before .before .before .before .args in listed (now (a .payload)) ≡ good (listing (now (a .payload))))
-made c =
+-- the payload is accepted where the first pass finds rows
+whole : (c : tie.After-enum-told) → AcceptedPayload (now (c .before .before .before .before .before .args .payload))
+unfolding accepted
+whole c =
     let parsed = c .before .before in
-    let a = parsed .before .before .before .args in
-    let (rows, found, many) = rows-counted _ _ (sym (parsed .parse-srci .ensures) ∙ c .enum-told .given .1) in
-    listing-found (now (a .payload)) rows (λ k. omega (arith, parsed .before .before .shared-slice-known .given k)) found
-
-parse-refused : (p : List ℕ) {refusal : Refusal} → parse p ≡ fault refusal → listed p ≡ fault refusal
-unfolding listed
-parse-refused p e = after-fault _ _ e
-
--- nothing is stored in an output of no bytes
-nothing : (c : tie.After-write-display) → c .write-display .last .1 .0 ≡ []
-nothing c =
-    let a = c .before .before .before .before .before .before .before .args in
-    c .write-display .ensures .1 ∙ sets-past (listing (now (a .payload))) [] 0 (omega arith)
+    let p = now (parsed .before .before .before .args .payload) in (
+      λ k. omega (arith, parsed .before .before .shared-slice-known .given k),
+      ap isGood (rows-counted (parse p) _ (sym (parsed .parse-srci .ensures) ∙ c .enum-told .given .1) .1),
+    )
 
 parse-srci-requires : tie.Need-parse-srci-requires
 parse-srci-requires c κs = search needs
@@ -65,10 +52,9 @@ returns : tie.Need-returns
 unfolding listAnswer listOutput
 returns c =
     let w = c .before .before .before in
-    let told = w .before .before in
-    let a = told .before .before .before .before .before .args in
-    let (answered, left) = told-no-room (listed (now (a .payload))) (now (a .output)) (made told) _ (w .write-display .ensures .0) (omega arith) in
-    (answered, rw (nothing w) left)
+    let found = w .before .before in
+    let a = found .before .before .before .before .before .args in
+    met-short listing-by-walk (now (a .payload)) (now (a .output)) (whole found) (w .write-display .ensures) (omega arith)
 
 write-display-requires-2 : tie.Need-write-display-requires-2
 write-display-requires-2 c κs = search needs
@@ -76,10 +62,9 @@ write-display-requires-2 c κs = search needs
 returns-2 : tie.Need-returns-2
 unfolding listAnswer listOutput
 returns-2 c =
-    let p = c .before .before .before in
-    let a = p .before .before .before .args in
-    let told = refused (listed (now (a .payload))) (now (a .output)) (parse-refused (now (a .payload)) (rows-refused _ _ (sym (p .parse-srci .ensures) ∙ c .before .refusal .given .1))) in
-    (sym (told .0), sym (told .1))
+    let parsed = c .before .before .before in
+    let a = parsed .before .before .before .args in
+    met-refused listing-by-walk (now (a .payload)) (now (a .output)) (rows-refused _ _ (sym (parsed .parse-srci .ensures) ∙ c .before .refusal .given .1))
 
 same-length-2 : tie.Need-same-length-2
 same-length-2 c = search needs
@@ -89,10 +74,9 @@ unfolding listAnswer listOutput
 returns-3 c =
     let second = c .before .before in
     let w = second .before .before .before .before .before in
-    let told = w .before .before in
-    let a = told .before .before .before .before .before .args in
-    let (answered, left) = told-room (listed (now (a .payload))) (now (a .output)) (made told) _ (w .write-display .ensures .0) (omega (arith, second .before .before .if1 .left)) in
-    (answered, second .write-display2 .ensures .1 ∙ rw (nothing w) left)
+    let found = w .before .before in
+    let a = found .before .before .before .before .before .args in
+    met-stored listing-by-walk (now (a .payload)) (now (a .output)) (whole found) (w .write-display .ensures) (omega (arith, second .before .before .if1 .left)) (second .write-display2 .ensures .1)
 
 pub list-spec : {M : Type 1} → statement M
 list-spec =

@@ -1,6 +1,5 @@
 -- `print::print_answer` meets its contract: of an accepted call all is there, and a refused one has its line.
 -- Assumes nothing.
-use Prim.Native.Nat.{_-_}
 use mathlib.Core.Path.{refl}
 use borrow.Author.Needs.{needs}
 use Rattle.format.specs.Print.{told, toldLength}

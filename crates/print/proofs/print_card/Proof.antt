@@ -1,24 +1,21 @@
 -- `print::print_card` meets its contract: what is printed of the answer, over what the call left, is the outcome.
 -- Assumes nothing.
-use Prim.Native.Nat.{_-_}
-use mathlib.Core.Path.{_≡_, _∙_}
-use native.Mathlib.Nat.{zero-add}
+use mathlib.Core.Path.{_≡_}
 use native.Mathlib.Omega.{arith}
 use borrow.Author.Needs.{needs}
 use lib.ListN.{length}
-use lib.Seq.{sets-eq}
 use denote.Ref.{now}
 use Rattle.format.specs.Card.{cardOf, cardAnswer, cardOutput}
-use Rattle.format.specs.Print.{longerLine}
-use Rattle.format.proofs.PrintLaws.{longer-short, printed-long, printed-outcome, outcome-told}
+use Rattle.format.specs.Print.{printLimit}
+use Rattle.format.proofs.PrintLaws.{longer-printed, answer-printed}
 use Rattle.print.proofs.print_card.Statement.{statement}
 use Rattle.print.proofs.print_card.Tie as tie
 
 -- the output's length
-whole : (c : tie.After-card-arg) → length (now (c .before .before .before .args .output)) ≡ 65536
+whole : (c : tie.After-card-arg) → length (now (c .before .before .before .args .output)) ≡ printLimit
 whole c = omega (arith, c .card-arg .given)
 
-whole′ : (c : tie.After-print-longer-arg) → length (now (c .before .before .before .args .output)) ≡ 65536
+whole′ : (c : tie.After-print-longer-arg) → length (now (c .before .before .before .args .output)) ≡ printLimit
 whole′ c = omega (arith, c .print-longer-arg .given)
 
 print-longer-requires : tie.Need-print-longer-requires
@@ -28,9 +25,7 @@ returns : tie.Need-returns
 returns c =
     let long = c .before .before in
     let a = long .before .before .args in
-    let (size, out) = c .print-longer .ensures in
-    rw (printed-long cardOf (now (a .input)) (long .if1 .taken))
-    (size, out ∙ sets-eq longerLine (now (a .output)) 0 (omega (arith, whole′ (c .before), longer-short)) ∙ rw zero-add)
+    longer-printed cardOf (now (a .input)) (now (a .output)) (whole′ (c .before)) (long .if1 .taken) (c .print-longer .ensures)
 
 card-requires : tie.Need-card-requires
 card-requires c κs = search needs
@@ -43,11 +38,7 @@ unfolding cardAnswer cardOutput
 returns-2 c =
     let l = c .before .before in
     let a = l .before .before .before .before .args in
-    let (size, out) = c .print-answer .ensures in
-    let (answered, left) = l .card .ensures in
-    let (long, is) = outcome-told (now (a .output)) (whole (l .before)) (cardOf (now (a .input))) in
-    rw (printed-outcome cardOf (now (a .input)) (omega (arith, l .before .before .if1 .left)))
-    (size ∙ rw answered long, out ∙ rw (answered, left) is)
+    answer-printed cardOf (now (a .input)) (now (a .output)) (whole (l .before)) (omega (arith, l .before .before .if1 .left)) (l .card .ensures) (c .print-answer .ensures)
 
 pub print-card-spec : {M : Type 1} → statement M
 print-card-spec =

@@ -1,6 +1,5 @@
 -- `print::print_longer` meets its contract: the bytes are those of the line.
 -- Assumes nothing.
-use Prim.Native.Nat.{_-_}
 use mathlib.Core.Path.{refl}
 use borrow.Author.Needs.{needs}
 use Rattle.format.specs.Display.{ascii}

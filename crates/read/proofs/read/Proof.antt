@@ -9,7 +9,8 @@ use borrow.Author.Needs.{needs}
 use denote.Ref.{now}
 use lib.ListN.{length}
 use Rattle.layout.specs.Checked.{good, isGood}
-use Rattle.layout.specs.declared.row.Row.{Row}
+use Rattle.table.specs.Rows.{width}
+use Rattle.table.specs.declared.row.Row.{Row}
 use Rattle.layout.specs.declared.refusal.Answer.the-variants.{Accepted, Refused}
 use Rattle.layout.specs.declared.refusal.Refusal.the-variants.{NoRows}
 use Rattle.format.specs.Parse.{parse}
@@ -67,7 +68,7 @@ returns-3 c =
     let n = f .before .before .before .before in
     let a = n .before .before .before .before .before .args in
     let (rs, is, count) = rows n in
-    let room : length rs ≤ length (now (a .rows)) / 7 = omega (arith, count) in
+    let room : length rs ≤ length (now (a .rows)) / width = omega (arith, count) in
     let all = held (now (a .payload)) (now (a .rows)) is room in (
       ap Accepted (sym count) ∙ sym (all .0),
       f .fill-srci .ensures

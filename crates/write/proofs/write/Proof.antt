@@ -9,7 +9,7 @@ use denote.Ref.{now}
 use lib.ListN.{length}
 use lib.Seq.{sets}
 use Rattle.layout.specs.Checked.{good, isGood}
-use Rattle.layout.specs.Rows.{rowsOf}
+use Rattle.table.specs.Rows.{rowsOf}
 use Rattle.layout.proofs.Checked.{check-good}
 use Rattle.format.specs.Write.{written, writtenTable, writeAnswer, writeOutput}
 use Rattle.format.proofs.Output.{refused, told-no-room, told-room}

@@ -1,14 +1,17 @@
--- `card::source_info::count_known` meets its contract. The loop's invariant: what is counted and what is left to count are all; a section's place grows by less than 2 to the 32 a turn.
+-- `card::source_info::count_known` meets its contract. The loop's invariant: what is counted and what is left to count are all; a section's place grows by
+-- less than 2 to the 32 a turn.
 -- Assumes nothing.
 use Prim.Native.Nat.{_+_, _*_, _-_, _≤_}
 use mathlib.Core.Path.{_≡_, ap, _∙_}
 use native.Mathlib.Nat.{sub-zero, zero-add}
 use native.Mathlib.Omega.{arith}
 use borrow.Author.Needs.{needs}
-use Rattle.layout.specs.Kinds.{known}
-use Rattle.format.specs.CopyWalk.{knownFrom}
-use Rattle.format.proofs.KnownLaws.{known-least, next-known}
-use Rattle.format.proofs.Walking.{one-fewer}
+use lib.ListN.{length}
+use Rattle.layout.specs.Kinds.{sectionType, known}
+use Rattle.format.specs.CardWalk.{publicLineAt}
+use Rattle.format.specs.Parse.{kindAt}
+use Rattle.format.proofs.Storing.{takenFrom, count-next, count-end, known-most}
+use Rattle.card.proofs.CardLaws.{line-known}
 use Rattle.card.proofs.source_info.count_known.Statement.{statement}
 use Rattle.card.proofs.source_info.count_known.Tie as tie
 
@@ -17,7 +20,7 @@ Inv-loop payload count at₀ sections₀ done₀ at sections done =
     (done ≤ count)
     × (at ≤ 8 + 4294967296 * done)
     × (sections ≤ done)
-    × (sections + knownFrom payload (count - done) at ≡ knownFrom payload count 8)
+    × (sections + length (takenFrom payload (publicLineAt payload) (count - done) at) ≡ length (takenFrom payload (publicLineAt payload) count 8))
 
 abbrev μ-loop : tie.MeasureT-loop
 μ-loop payload count at₀ sections₀ done₀ at sections done = count - done
@@ -31,11 +34,14 @@ add-read-u16 c = omega arith
 read-u16-requires : tie.Need-read-u16-requires Inv-loop μ-loop
 read-u16-requires c κs = search needs
 
+from-u16-requires : tie.Need-from-u16-requires Inv-loop μ-loop
+from-u16-requires c κs = search needs
+
 known-requires : tie.Need-known-requires Inv-loop μ-loop
 known-requires c κs = search needs
 
 add-sections : tie.Need-add-sections Inv-loop μ-loop
-add-sections c = omega (arith, c .known .ensures, known-least (c .before .read-u16 .result))
+add-sections c = omega (arith, c .known .ensures, known-most (c .before .from-u16 .result))
 
 read-u32-requires : tie.Need-read-u32-requires Inv-loop μ-loop
 read-u32-requires c κs = search needs
@@ -55,27 +61,26 @@ loop-less c = search needs
 loop-again : tie.Need-loop-again Inv-loop μ-loop
 loop-again c =
     let k = c .before in
-    let n = k .before in
-    let i = n .before .before in
+    let f = k .before in
+    let inside = f .before .before in
+    let i = inside .before in
     let a = i .before .before .args in
     let p = a .payload .now in
     let at = i .loop .at in
-    let left = a .count - (i .loop .done + 1) in
-    let fewer = one-fewer (a .count) (i .loop .done) (n .before .loop-test .taken) in
-    let kinds = k .known .ensures ∙ ap known (n .read-u16 .ensures) in (
+    let kinds : k .known .result ≡ known (kindAt p at) = k .known .ensures ∙ ap known (f .from-u16 .ensures ∙ ap sectionType (f .before .read-u16 .ensures)) in
+    rw (c .read-u32 .ensures) (
       omega arith,
-      omega arith,
-      omega (arith, k .known .ensures, known-least (n .read-u16 .result)),
-      rw (c .read-u32 .ensures) (omega (arith, kinds, next-known p left at, rw fewer at (i .loop .inv .3))),
+      omega (arith, c .read-u32 .ensures),
+      omega (arith, k .known .ensures, known-most (f .from-u16 .result)),
+      omega (arith, kinds, line-known p (kindAt p at) at, count-next p (publicLineAt p) (a .count) (i .loop .done) (inside .loop-test .taken) at),
     )
 
 returns : tie.Need-returns Inv-loop μ-loop
-unfolding knownFrom
 returns c =
     let i = c .before .loop in
     let a = c .before .before .before .args in
-    let none : a .count - i .done ≡ 0 = omega arith in
-    omega (arith, rw none at (i .inv .3))
+    let p = a .payload .now in
+    omega (arith, count-end p (publicLineAt p) (a .count) (i .done) (omega arith) (i .at))
 
 pub count-known-spec : {M : Type 1} → statement M
 count-known-spec =
@@ -86,6 +91,7 @@ count-known-spec =
     loop-holds
     add-read-u16
     read-u16-requires
+    from-u16-requires
     known-requires
     add-sections
     read-u32-requires

@@ -1,13 +1,11 @@
 -- `card::source_info::write_card` meets its contract: the heading and the lines are the card.
 -- Assumes nothing.
-use Prim.Native.Nat.{_-_}
-use mathlib.Core.Path.{_∙_}
 use native.Mathlib.Omega.{arith}
 use borrow.Author.Needs.{needs}
-use lib.ListN.{length-append}
-use Rattle.wire.proofs.Sets.{sets-joined}
-use Rattle.format.specs.Display.{heading}
-use Rattle.format.specs.CardWalk.{cardLines, card}
+use Rattle.format.specs.CardWalk.{publicLineAt, card}
+use Rattle.format.specs.Walk.{places}
+use Rattle.format.proofs.Storing.{takenFrom}
+use Rattle.display.proofs.LineLaws.{page-stored}
 use Rattle.card.proofs.source_info.write_card.Statement.{statement}
 use Rattle.card.proofs.source_info.write_card.Tie as tie
 
@@ -35,21 +33,17 @@ same-length : tie.Need-same-length
 same-length c = search needs
 
 returns : tie.Need-returns
-unfolding card
+unfolding card places
 returns c =
     let lines = c .before .before in
     let h = lines .before .before .before .before in
     let k = h .before in
     let read = k .before .before in
     let a = read .before .before .before .args in
-    let count = read .read-u16 .result in
-    let shown = k .count-known .result in
-    let all = cardLines (a .payload .now) count 8 0 in
-    let (start, (most, out)) = h .write-heading .ensures in
-    rw (← read .read-u16 .ensures, ← k .count-known .ensures) (
-      omega (arith, lines .write-lines .ensures .0, start, length-append (heading shown) all),
-      lines .write-lines .ensures .1 .1 ∙ rw out (sets-joined (heading shown) all (a .output .now) 0 _ (omega (arith, start))),
-    )
+    let p = a .payload .now in
+    let (start, (most, headed)) = h .write-heading .ensures in
+    let (end, (limit, stored)) = lines .write-lines .ensures in
+    rw (← read .read-u16 .ensures) (page-stored (takenFrom p (publicLineAt p) (read .read-u16 .result) 8) (a .output .now) (k .count-known .ensures) (start, headed) (end, stored))
 
 pub write-card-spec : {M : Type 1} → statement M
 write-card-spec =

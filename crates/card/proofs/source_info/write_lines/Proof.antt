@@ -1,4 +1,5 @@
--- `card::source_info::write_lines` meets its contract. The loop's invariant: the lines that are left, stored from here on, give the output that all lines give.
+-- `card::source_info::write_lines` meets its contract. The loop's invariant: the lines of the sections that are left are left to store; a section's place
+-- grows by less than 2 to the 32 a turn, and the card by at most 128.
 -- Assumes nothing.
 use Prim.Native.Nat.{_+_, _*_, _-_, _≤_}
 use mathlib.Core.Path.{_≡_, refl, ap, _∙_}
@@ -6,13 +7,12 @@ use native.Mathlib.Nat.{sub-zero}
 use native.Mathlib.Omega.{arith}
 use borrow.Author.Needs.{needs}
 use lib.ListN.{length}
-use lib.Seq.{sets}
-use Rattle.wire.specs.Number.{u16At}
-use Rattle.layout.specs.Kinds.{known}
-use Rattle.format.specs.CardWalk.{cardLines}
-use Rattle.format.proofs.KnownLaws.{known-least}
-use Rattle.format.proofs.Walking.{one-fewer}
-use Rattle.card.proofs.CardLaws.{next-stored, next-length}
+use Rattle.layout.specs.Kinds.{sectionType, known}
+use Rattle.format.specs.CardWalk.{publicLineAt}
+use Rattle.format.specs.Display.{lines}
+use Rattle.format.specs.Parse.{kindAt}
+use Rattle.format.proofs.Storing.{Left, left-all, left-next, left-none, known-most}
+use Rattle.card.proofs.CardLaws.{linesFrom, lines-next, lines-end}
 use Rattle.card.proofs.source_info.write_lines.Statement.{statement}
 use Rattle.card.proofs.source_info.write_lines.Tie as tie
 
@@ -22,21 +22,14 @@ Inv-loop payload count output₀ start at₀ to₀ place₀ done₀ output at to
     × (at ≤ 8 + 4294967296 * done)
     × (to ≤ start + 128 * done)
     × (place ≤ done)
-    × (to + length (cardLines payload (count - done) at place) ≡ start + length (cardLines payload count 8 0))
-    × (sets output to (cardLines payload (count - done) at place) ≡ sets output₀ start (cardLines payload count 8 0))
+    × Left output₀ start (linesFrom payload count 8 0) output to (linesFrom payload (count - done) at place)
     × (length output ≡ length output₀)
 
 abbrev μ-loop : tie.MeasureT-loop
 μ-loop payload count output₀ start at₀ to₀ place₀ done₀ output at to place done = count - done
 
 loop-holds : tie.Need-loop-holds Inv-loop μ-loop
-loop-holds c = (omega arith, omega arith, omega arith, omega arith, rw sub-zero, rw sub-zero, refl)
-
-cast-write-shown : tie.Need-cast-write-shown Inv-loop μ-loop
-cast-write-shown c = omega arith
-
-write-shown-requires : tie.Need-write-shown-requires Inv-loop μ-loop
-write-shown-requires c κs = omega arith
+loop-holds c = (omega arith, omega arith, omega arith, omega arith, left-all (rw sub-zero), refl)
 
 add-read-u16 : tie.Need-add-read-u16 Inv-loop μ-loop
 add-read-u16 c = omega arith
@@ -44,11 +37,20 @@ add-read-u16 c = omega arith
 read-u16-requires : tie.Need-read-u16-requires Inv-loop μ-loop
 read-u16-requires c κs = search needs
 
+from-u16-requires : tie.Need-from-u16-requires Inv-loop μ-loop
+from-u16-requires c κs = search needs
+
+cast-write-shown : tie.Need-cast-write-shown Inv-loop μ-loop
+cast-write-shown c = omega arith
+
+write-shown-requires : tie.Need-write-shown-requires Inv-loop μ-loop
+write-shown-requires c κs = omega arith
+
 known-requires : tie.Need-known-requires Inv-loop μ-loop
 known-requires c κs = search needs
 
 add-place : tie.Need-add-place Inv-loop μ-loop
-add-place c = omega (arith, c .known .ensures, known-least (c .before .read-u16 .result))
+add-place c = omega (arith, c .known .ensures, known-most (c .before .before .before .before .before .from-u16 .result))
 
 read-u32-requires : tie.Need-read-u32-requires Inv-loop μ-loop
 read-u32-requires c κs = search needs
@@ -68,38 +70,34 @@ loop-less c = search needs
 loop-again : tie.Need-loop-again Inv-loop μ-loop
 loop-again c =
     let k = c .before in
-    let n = k .before in
-    let w = n .before .before .before in
-    let i = w .before .before .before in
+    let w = k .before .before .before in
+    let f = w .before .before in
+    let inside = f .before .before in
+    let i = inside .before in
     let a = i .before .before .before .args in
     let p = a .payload .now in
     let at = i .loop .at in
-    let to = i .loop .to in
     let place = i .loop .place in
-    let left = a .count - (i .loop .done + 1) in
-    let fewer = one-fewer (a .count) (i .loop .done) (w .before .before .loop-test .taken) in
-    let (told, (most, out)) = w .write-shown .ensures in
-    let kinds = k .known .ensures ∙ ap known (n .read-u16 .ensures) in
-    rw (c .read-u32 .ensures, kinds) (
+    let kind : f .from-u16 .result ≡ kindAt p at = f .from-u16 .ensures ∙ ap sectionType (f .before .read-u16 .ensures) in
+    let (told, (most, out)) = rw kind at (w .write-shown .ensures) in
+    rw (c .read-u32 .ensures, k .known .ensures ∙ ap known kind) (
       omega arith,
       omega (arith, c .read-u32 .ensures),
-      omega (arith, most),
-      omega (arith, known-least (u16At p (at + 6))),
-      omega (arith, told, next-length p left at place to, rw fewer at (i .loop .inv .4)),
-      rw (out, told) (next-stored p left at place to (i .loop .output) _ (rw fewer at (i .loop .inv .5))),
-      w .write-shown .kept .1 .1 .1 .0 ∙ i .loop .inv .6,
+      omega arith,
+      omega (arith, known-most (kindAt p at)),
+      left-next (lines place (publicLineAt p at)) _ (lines-next p (a .count) (i .loop .done) at place (inside .loop-test .taken)) (i .loop .inv .4) told out,
+      w .write-shown .kept .1 .1 .1 .1 .0 ∙ i .loop .inv .5,
     )
 
 same-length : tie.Need-same-length Inv-loop μ-loop
 same-length c = search needs
 
 returns : tie.Need-returns Inv-loop μ-loop
-unfolding cardLines
 returns c =
     let i = c .before .loop in
     let a = c .before .before .before .before .args in
-    let none : a .count - i .done ≡ 0 = omega arith in
-    (omega (arith, rw none at (i .inv .4)), (omega arith, rw none at (i .inv .5)))
+    let (end, stored) = left-none (lines-end (a .payload .now) (a .count) (i .done) (i .at) (i .place) (omega arith)) (i .inv .4) in
+    (end, (omega arith, stored))
 
 pub write-lines-spec : {M : Type 1} → statement M
 write-lines-spec =
@@ -108,10 +106,11 @@ write-lines-spec =
     Inv-loop
     μ-loop
     loop-holds
-    cast-write-shown
-    write-shown-requires
     add-read-u16
     read-u16-requires
+    from-u16-requires
+    cast-write-shown
+    write-shown-requires
     known-requires
     add-place
     read-u32-requires

@@ -1,6 +1,6 @@
 -- `bytes_of` meets its contract: the test of the side says which bytes `sideOf` names, and `part_of` gives their part.
 use borrow.Author.Needs.{needs}
-use Rattle.layout.proofs.Texts.{sideOf-payload, sideOf-edit}
+use Rattle.layout.proofs.Sides.{sideOf-payload, sideOf-edit}
 use Rattle.layout.proofs.text.bytes_of.Statement.{statement}
 use Rattle.layout.proofs.text.bytes_of.Tie as tie
 

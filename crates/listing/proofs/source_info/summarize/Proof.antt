@@ -1,26 +1,20 @@
 -- `listing::source_info::summarize` meets its contract: the fields are those of the definition, by the kind.
 -- Assumes nothing.
-use Prim.Native.Nat.{_+_}
 use mathlib.Core.Path.{_≡_, sym, ap, _∙_}
 use borrow.Author.Needs.{needs}
-use Rattle.wire.specs.Number.{u16At}
-use Rattle.layout.specs.Kinds.{sectionType, kind}
+use Rattle.layout.specs.Kinds.{sectionType}
 use Rattle.layout.specs.declared.section_type.SourceInfoSectionType.{SourceInfoSectionType}
-use Rattle.layout.specs.declared.section_type.SourceInfoSectionType.the-variants.{SourceContents, SourceNames, Arguments}
-use Rattle.layout.proofs.Promises.{kind-has-number}
-use Rattle.format.specs.Lines.{lineAt}
-use Rattle.listing.proofs.DisplayLaws.{unknown-at}
+use Rattle.format.specs.Lines.{sectionLine}
+use Rattle.format.specs.Parse.{kindAt}
 use Rattle.listing.proofs.source_info.summarize.Statement.{statement}
 use Rattle.listing.proofs.source_info.summarize.Tie as tie
 
--- the kind's number
+-- the kind of the section
 kind-told :
-    (c : tie.After-from-u16) (t : SourceInfoSectionType) →
+    (c : tie.After-from-u16) {t : SourceInfoSectionType} →
     c .from-u16 .result ≡ t →
-    (let a = c .before .before .before .args in u16At (a .payload .now) (a .at + 6) ≡ kind t)
-kind-told c t e =
-    let number = c .before .read-u16 in
-    sym (number .ensures) ∙ sym (kind-has-number (number .result)) ∙ ap kind (sym (c .from-u16 .ensures) ∙ e)
+    (let a = c .before .before .before .args in kindAt (a .payload .now) (a .at) ≡ t)
+kind-told c e = ap sectionType (sym (c .before .read-u16 .ensures)) ∙ sym (c .from-u16 .ensures) ∙ e
 
 add-read-u16 : tie.Need-add-read-u16
 add-read-u16 c = search needs
@@ -65,24 +59,22 @@ body-size-requires : tie.Need-body-size-requires
 body-size-requires c κs = search needs
 
 returns : tie.Need-returns
-unfolding lineAt
-returns c = rw (kind-told (c .before .before .before) SourceContents (c .before .enum-told .given .1)) (c .summarize-contents .ensures)
+unfolding sectionLine
+returns c = rw (kind-told (c .before .before .before) (c .before .enum-told .given .1)) (c .summarize-contents .ensures)
 
 returns-2 : tie.Need-returns-2
-unfolding lineAt
-returns-2 c = rw (kind-told (c .before .before .before) SourceNames (c .before .enum-told2 .given .1), c .read-u32 .ensures)
+unfolding sectionLine
+returns-2 c = rw (kind-told (c .before .before .before) (c .before .enum-told2 .given .1), c .read-u32 .ensures)
 
 returns-3 : tie.Need-returns-3
-unfolding lineAt
-returns-3 c = rw (kind-told (c .before .before .before) Arguments (c .before .enum-told3 .given .1), c .read-u322 .ensures)
+unfolding sectionLine
+returns-3 c = rw (kind-told (c .before .before .before) (c .before .enum-told3 .given .1), c .read-u322 .ensures)
 
 returns-4 : tie.Need-returns-4
+unfolding sectionLine
 returns-4 c =
     let k = c .before .before .before in
-    let section = k .before .before in
-    let a = section .before .before .before .args in
-    let type = ap sectionType (sym (section .before .read-u16 .ensures)) ∙ sym (section .from-u16 .ensures) ∙ k .kind .given .1 in
-    rw (unknown-at (a .payload .now) (a .at) _ _ type, c .body-size .ensures, c .before .read-u323 .ensures)
+    rw (kind-told (k .before .before) (k .kind .given .1), c .body-size .ensures, c .before .read-u323 .ensures)
 
 pub summarize-spec : {M : Type 1} → statement M
 summarize-spec =

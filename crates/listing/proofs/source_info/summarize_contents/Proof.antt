@@ -1,11 +1,20 @@
 -- `listing::source_info::summarize_contents` meets its contract: the fields are those of the definition, by the compression.
 -- Assumes nothing.
-use mathlib.Core.Path.{sym, _∙_}
+use mathlib.Core.Path.{_≡_, sym, ap, _∙_}
 use borrow.Author.Needs.{needs}
-use Rattle.format.specs.Lines.{contentsLineAt}
-use Rattle.listing.proofs.DisplayLaws.{packed-at}
+use Rattle.layout.specs.Kinds.{checkedCompression}
+use Rattle.layout.specs.declared.compression.SourceCompression.{SourceCompression}
+use Rattle.format.specs.Lines.{contentsLine}
+use Rattle.format.specs.Walk.{compressionAt}
 use Rattle.listing.proofs.source_info.summarize_contents.Statement.{statement}
 use Rattle.listing.proofs.source_info.summarize_contents.Tie as tie
+
+-- the compression of the contents
+compression-told :
+    (c : tie.After-checked) {t : SourceCompression} →
+    c .checked .result ≡ t →
+    (let a = c .before .before .before .before .args in compressionAt (a .payload .now) (a .at) ≡ t)
+compression-told c e = ap checkedCompression (sym (c .before .read-u16 .ensures)) ∙ sym (c .checked .ensures) ∙ e
 
 add-read-u32 : tie.Need-add-read-u32
 add-read-u32 c = search needs
@@ -19,9 +28,14 @@ add-read-u16 c = search needs
 read-u16-requires : tie.Need-read-u16-requires
 read-u16-requires c κs = search needs
 
-returns : tie.Need-returns
-unfolding contentsLineAt
-returns c = rw (sym (c .before .read-u16 .ensures) ∙ c .if1 .taken, c .before .before .read-u32 .ensures)
+checked-requires : tie.Need-checked-requires
+checked-requires c κs = search needs
+
+enum-told : tie.Need-enum-told
+enum-told c = search needs
+
+enum-told-2 : tie.Need-enum-told-2
+enum-told-2 c = search needs
 
 add-read-u32-2 : tie.Need-add-read-u32-2
 add-read-u32-2 c = search needs
@@ -29,11 +43,13 @@ add-read-u32-2 c = search needs
 read-u32-requires-2 : tie.Need-read-u32-requires-2
 read-u32-requires-2 c κs = search needs
 
+returns : tie.Need-returns
+unfolding contentsLine
+returns c = rw (compression-told (c .before .before) (c .enum-told .given .1), c .before .before .before .before .read-u32 .ensures)
+
 returns-2 : tie.Need-returns-2
-returns-2 c =
-    let number = c .before .before in
-    let a = number .before .before .before .args in
-    rw (packed-at (a .payload .now) (a .at) _ (λ e. c .before .if1 .left (number .read-u16 .ensures ∙ e)), c .read-u322 .ensures, number .before .read-u32 .ensures)
+unfolding contentsLine
+returns-2 c = rw (compression-told (c .before .before .before) (c .before .enum-told2 .given .1), c .read-u322 .ensures, c .before .before .before .before .before .read-u32 .ensures)
 
 pub summarize-contents-spec : {M : Type 1} → statement M
 summarize-contents-spec =
@@ -43,7 +59,10 @@ summarize-contents-spec =
     read-u32-requires
     add-read-u16
     read-u16-requires
-    returns
+    checked-requires
+    enum-told
+    enum-told-2
     add-read-u32-2
     read-u32-requires-2
+    returns
     returns-2)

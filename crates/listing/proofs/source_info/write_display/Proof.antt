@@ -1,13 +1,14 @@
 -- `listing::source_info::write_display` meets its contract: the heading and the lines are the listing.
 -- Assumes nothing.
-use Prim.Native.Nat.{_-_}
-use mathlib.Core.Path.{_∙_}
+use mathlib.Core.List.{map}
+use mathlib.Core.Path.{_≡_, sym, _∙_}
 use native.Mathlib.Omega.{arith}
 use borrow.Author.Needs.{needs}
-use lib.ListN.{length-append}
-use Rattle.wire.proofs.Sets.{sets-joined}
-use Rattle.format.specs.Display.{heading}
-use Rattle.format.specs.Lines.{linesFrom, listing}
+use lib.ListN.{length, length-map}
+use Rattle.format.specs.Lines.{lineAt, listing}
+use Rattle.format.specs.Walk.{placesFrom, places}
+use Rattle.format.proofs.Walking.{length-places}
+use Rattle.display.proofs.LineLaws.{page-stored}
 use Rattle.listing.proofs.source_info.write_display.Statement.{statement}
 use Rattle.listing.proofs.source_info.write_display.Tie as tie
 
@@ -32,19 +33,18 @@ same-length : tie.Need-same-length
 same-length c = search needs
 
 returns : tie.Need-returns
-unfolding listing
+unfolding listing places
 returns c =
     let lines = c .before .before in
     let h = lines .before .before .before .before in
     let read = h .before .before in
     let a = read .before .before .before .args in
+    let p = a .payload .now in
     let count = read .read-u16 .result in
-    let all = linesFrom (a .payload .now) count 8 0 in
-    let (start, (most, out)) = h .write-heading .ensures in
-    rw (← read .read-u16 .ensures) (
-      omega (arith, lines .write-lines .ensures .0, start, length-append (heading count) all),
-      lines .write-lines .ensures .1 .1 ∙ rw out (sets-joined (heading count) all (a .output .now) 0 _ (omega (arith, start))),
-    )
+    let many : length (map (lineAt p) (placesFrom p count 8)) ≡ count = length-map (placesFrom p count 8) (lineAt p) ∙ length-places p count 8 in
+    let (start, (most, headed)) = h .write-heading .ensures in
+    let (end, (limit, stored)) = lines .write-lines .ensures in
+    rw (← read .read-u16 .ensures) (page-stored (map (lineAt p) (placesFrom p count 8)) (a .output .now) (sym many) (start, headed) (end, stored))
 
 pub write-display-spec : {M : Type 1} → statement M
 write-display-spec =

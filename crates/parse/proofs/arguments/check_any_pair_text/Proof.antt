@@ -11,7 +11,7 @@ use Rattle.wire.specs.Nul.{untilNul}
 use Rattle.wire.proofs.NulLaws.{until-length}
 use Rattle.utf8.specs.Rfc3629.{utf8Of}
 use Rattle.utf8.proofs.Laws.{well-formed, not-well-formed}
-use Rattle.layout.specs.Texts.{part}
+use Rattle.layout.specs.Spans.{part}
 use Rattle.parse.specs.Outcome.{maybeText}
 use Rattle.parse.specs.declared.outcome.MaybeText.the-variants.{Text}
 use Rattle.format.proofs.PairLaws.{run, length-run, text-open, text-ill-formed, text-well-formed}

@@ -12,10 +12,10 @@ use lib.ListN.{length}
 use Rattle.wire.specs.Number.{u32At}
 use Rattle.layout.specs.Checked.{Checked, good, check, then}
 use Rattle.format.specs.Encoding.{limit}
-use Rattle.layout.specs.Rows.{row}
+use Rattle.table.specs.Rows.{argumentsRow}
 use Rattle.layout.specs.TextCheck.{verdict}
 use Rattle.parse.specs.Outcome.{counted}
-use Rattle.format.specs.Parse.{framed, pairs, arguments}
+use Rattle.format.specs.Parse.{framed, pairs, parseArguments}
 use Rattle.parse.specs.declared.outcome.Counted.the-variants.{Rows}
 use Rattle.parse.proofs.Count.{add, counted-more}
 use Rattle.format.proofs.FrameLaws.{framed-good}
@@ -25,7 +25,7 @@ use Rattle.parse.proofs.PairCount.{counted-bound}
 use Rattle.parse.proofs.arguments.parse_arguments.Tie as tie
 
 returns : tie.Need-returns
-unfolding arguments check
+unfolding parseArguments check
 returns c = rw (lt-leb 20 (c .before .before .args .size) (c .if1 .taken))
 
 add-read-u32 : tie.Need-add-read-u32
@@ -38,7 +38,7 @@ long : (c : tie.Else1) → leb 20 (c .before .before .args .size) ≡ true
 long c = le-leb 20 (c .before .before .args .size) (c .if1 .left)
 
 returns-2 : tie.Need-returns-2
-unfolding arguments check
+unfolding parseArguments check
 returns-2 c =
     let a = c .before .before .before .before .args in
     rw (long (c .before .before), ne-eqb (u32At (now (a .payload)) (a .at + 8)) 0 (λ e. c .if2 .taken (c .before .read-u32 .ensures ∙ e)))
@@ -71,7 +71,7 @@ framed-answer : (c : tie.After-check-framed) → c .check-framed .result ≡ ver
 framed-answer c = rw (c .before .read-u322 .ensures) at (c .check-framed .ensures)
 
 returns-3 : tie.Need-returns-3
-unfolding arguments check then
+unfolding parseArguments check then
 returns-3 c =
     let f = c .before .before .before in
     let refused = not-passed (framing (f .before .before .before .before .before .before)) _ (sym (framed-answer f) ∙ c .before .refusal .given .1) in
@@ -130,15 +130,15 @@ add-t19 c = omega (arith, few (c .before .before .before) (c .before .pairs .giv
 answer :
     (c : tie.After-check-pairs) →
     (let a = c .before .before .before .before .before .before .before .before .before .before .args in
-    counted (arguments (now (a .payload)) (a .at) (a .size)) ≡ add 1 (c .check-pairs .result))
-unfolding arguments check then
+    counted (parseArguments (now (a .payload)) (a .at) (a .size)) ≡ add 1 (c .check-pairs .result))
+unfolding parseArguments check then
 answer c =
     let t = c .before .before in
     let b = t .before .before .before in
     let a = b .before .before .before .before .before .args in
     let p = now (a .payload) in
     let rest = pairs (u32At p (a .at + 16)) p (a .at + 20) (a .at + 20 + u32At p (a .at + 12)) in
-    rw (long (b .before .before .before), no-flag (b .before), whole t) (counted-more (row 3 0 0 0 0 0 0) rest)
+    rw (long (b .before .before .before), no-flag (b .before), whole t) (counted-more (argumentsRow) rest)
     ∙ ap (add 1) (sym (rw (b .read-u322 .ensures, c .before .read-u323 .ensures) at (c .check-pairs .ensures)))
 
 returns-4 : tie.Need-returns-4

@@ -2,14 +2,13 @@
 -- they lie inside the payload.
 -- Assumes nothing.
 use Prim.Native.Nat.{ℕ, _+_}
-use mathlib.Core.Path.{_≡_, ap, sym, _∙_}
+use mathlib.Core.Path.{_≡_, ap, ap₂, sym, _∙_}
 use native.Mathlib.Omega.{arith}
 use borrow.Author.Needs.{needs}
 use denote.Ref.{now}
-use Rattle.layout.specs.Kinds.{compressionNumber}
 use Rattle.layout.specs.declared.compression.SourceCompression.{SourceCompression}
 use Rattle.parse.specs.Outcome.{counted}
-use Rattle.format.specs.Parse.{entries, contentRow, stored}
+use Rattle.format.specs.Parse.{entries, contentRowAt, parseStored}
 use Rattle.format.proofs.BodyTests.{plain-unequal, plain-rest}
 use Rattle.parse.proofs.Count.{add, counted-more}
 use Rattle.format.proofs.EntryLaws.{entries-bound}
@@ -18,25 +17,26 @@ use Rattle.parse.proofs.contents.check_stored.Statement.{statement}
 use Rattle.parse.proofs.contents.check_stored.Tie as tie
 
 -- past its test a plain section has one row more than entries
-whole : (e : tie.After-check-entries) → (let a = e .before .before .before .before .before .before .before .args in counted (stored (compressionNumber (a .compression)) (now (a .payload)) (a .at) (a .bytes)) ≡ add 1 (e .check-entries .result))
+whole : (e : tie.After-check-entries) → (let a = e .before .before .before .before .before .before .before .args in counted (parseStored (a .compression) (now (a .payload)) (a .at)) ≡ add 1 (e .check-entries .result))
 whole e =
     let r = e .before .before .before in
     let a = r .before .before .before .before .args in
-    ap (λ (k : SourceCompression). counted (stored (compressionNumber k) (now (a .payload)) (a .at) (a .bytes))) (r .before .enum-told2 .given .1)
-    ∙ ap counted (plain-rest (now (a .payload)) (a .at) (a .bytes) (sym (r .read-u32 .ensures) ∙ e .before .before .if1 .left))
+    let bytes = r .before .before .before .before .pre .0 in
+    ap (λ (k : SourceCompression). counted (parseStored k (now (a .payload)) (a .at))) (r .before .enum-told2 .given .1)
+    ∙ ap counted (plain-rest (now (a .payload)) (a .at) (sym (r .read-u32 .ensures) ∙ e .before .before .if1 .left ∙ bytes))
     ∙ counted-more _ _
     ∙ ap (add 1)
-    (ap (λ (n : ℕ). counted (entries 12 contentRow n (now (a .payload)) (a .at + 28) (a .at + 28 + a .bytes))) (sym (e .before .read-u322 .ensures))
+    (ap₂ (λ (n b : ℕ). counted (entries 12 contentRowAt n (now (a .payload)) (a .at + 28) (a .at + 28 + b))) (sym (e .before .read-u322 .ensures)) (sym bytes)
     ∙ sym (e .check-entries .ensures))
 
 enum-told : tie.Need-enum-told
 enum-told c = search needs
 
 returns : tie.Need-returns
-unfolding stored
+unfolding parseStored
 returns c =
     let a = c .before .before .before .args in
-    sym (ap (λ (k : SourceCompression). counted (stored (compressionNumber k) (now (a .payload)) (a .at) (a .bytes))) (c .enum-told .given .1))
+    sym (ap (λ (k : SourceCompression). counted (parseStored k (now (a .payload)) (a .at))) (c .enum-told .given .1))
 
 enum-told-2 : tie.Need-enum-told-2
 enum-told-2 c = search needs
@@ -50,9 +50,10 @@ read-u32-requires c κs = search needs
 returns-2 : tie.Need-returns-2
 returns-2 c =
     let a = c .before .before .before .before .before .args in
+    let bytes = c .before .before .before .before .before .pre .0 in
     sym
-    (ap (λ (k : SourceCompression). counted (stored (compressionNumber k) (now (a .payload)) (a .at) (a .bytes))) (c .before .before .enum-told2 .given .1)
-    ∙ ap counted (plain-unequal (now (a .payload)) (a .at) (a .bytes) (λ e. c .if1 .taken (c .before .read-u32 .ensures ∙ e))))
+    (ap (λ (k : SourceCompression). counted (parseStored k (now (a .payload)) (a .at))) (c .before .before .enum-told2 .given .1)
+    ∙ ap counted (plain-unequal (now (a .payload)) (a .at) (λ e. c .if1 .taken (c .before .read-u32 .ensures ∙ e ∙ sym bytes))))
 
 add-start : tie.Need-add-start
 add-start c = search needs
@@ -80,7 +81,7 @@ add-t16 c =
     let e = c .before .before .before in
     let (rs, found, count) = rows-counted _ _ (sym (e .check-entries .ensures) ∙ c .before .entries .given .1) in
     let pre = e .before .before .before .before .before .before .before .pre in
-    omega (arith, entries-bound 12 _ _ contentRow _ _ rs found, count, pre .0, pre .1)
+    omega (arith, entries-bound 12 _ _ contentRowAt _ _ rs found, count, pre .1 .0, pre .1 .1)
 
 returns-3 : tie.Need-returns-3
 returns-3 c = sym (whole (c .before .before .before) ∙ ap (add 1) (c .before .refusal .given .1))

@@ -2,20 +2,21 @@
 -- `check_stored`'s.
 -- Assumes nothing.
 use Prim.Native.Nat.{ℕ, _+_, _≤_}
-use mathlib.Core.Path.{_≡_, ap, ap₂, sym, _∙_}
+use mathlib.Core.Path.{_≡_, ap, sym, _∙_}
 use mathlib.Core.List.{List}
 use native.Mathlib.Omega.{arith}
 use borrow.Author.Needs.{needs}
 use denote.Ref.{now}
 use Rattle.wire.specs.Number.{u16At, u32At}
 use Rattle.layout.proofs.Checked.{after-fault, after-good}
-use Rattle.layout.proofs.Unknown.{known-number, number-below, unknown-number}
+use Rattle.layout.proofs.Unknown.{known-compression, unknown-number}
 use Rattle.layout.specs.Checked.{then}
-use Rattle.layout.specs.Kinds.{compression, compressionNumber}
+use Rattle.layout.specs.Kinds.{compression, checkedCompression}
 use Rattle.layout.specs.TextCheck.{verdict}
+use Rattle.layout.specs.declared.compression.SourceCompression.{SourceCompression}
 use Rattle.layout.specs.declared.text_check.Check.the-variants.{Passed}
 use Rattle.parse.specs.Outcome.{counted}
-use Rattle.format.specs.Parse.{contents, framed, stored}
+use Rattle.format.specs.Parse.{parseContents, framed, parseStored}
 use Rattle.format.proofs.BodyTests.{contents-short, contents-flag, contents-unknown, contents-rest}
 use Rattle.format.proofs.FrameLaws.{framed-good}
 use Rattle.parse.proofs.contents.parse_contents.Statement.{statement}
@@ -33,17 +34,16 @@ module _ (s : tie.After-check-framed) where
   abbrev size : ℕ
   size = s .before .before .before .before .before .before .before .before .before .before .before .args .size
 
-  -- the compression that was found has the number that stands on the wire
-  number : compressionNumber (s .before .before .before .compression .given .0 .0) ≡ u16At payload (at + 14)
-  number =
+  -- the compression that was found is that of the number on the wire
+  known : (u16At payload (at + 14) ≤ 1) × (checkedCompression (u16At payload (at + 14)) ≡ s .before .before .before .compression .given .0 .0)
+  known =
       let n = s .before .before .before .before .before in
-      known-number _ _ (ap compression (sym (n .before .read-u162 .ensures)) ∙ sym (n .from-u16 .ensures) ∙ s .before .before .before .compression .given .1)
+      known-compression _ _ (ap compression (sym (n .before .read-u162 .ensures)) ∙ sym (n .from-u16 .ensures) ∙ s .before .before .before .compression .given .1)
 
-  rest : contents payload at size ≡ then (framed payload at size 28 (u32At payload (at + 16))) (λ _. stored (u16At payload (at + 14)) payload at (u32At payload (at + 16)))
+  rest : parseContents payload at size ≡ then (framed payload at size 28 (u32At payload (at + 16))) (λ _. parseStored (checkedCompression (u16At payload (at + 14))) payload at)
   rest =
       let n = s .before .before .before .before .before .before in
-      contents-rest payload at size (omega arith) (sym (n .before .before .read-u16 .ensures) ∙ n .before .if2 .left)
-      (omega (arith, number, number-below (s .before .before .before .compression .given .0 .0)))
+      contents-rest payload at size (omega arith) (sym (n .before .before .read-u16 .ensures) ∙ n .before .if2 .left) (known .0)
 
   framed-is : verdict (framed payload at size 28 (u32At payload (at + 16))) ≡ s .check-framed .result
   framed-is = ap (λ (b : ℕ). verdict (framed payload at size 28 b)) (sym (s .before .read-u32 .ensures)) ∙ sym (s .check-framed .ensures)
@@ -112,7 +112,7 @@ enum-told-2 c = search needs
 check-stored-requires : tie.Need-check-stored-requires
 check-stored-requires c κs =
     let s = c .before .before in
-    (omega (arith, fits s (c .enum-told2 .given .1), s .before .read-u32 .ensures), omega arith)
+    (s .before .read-u32 .ensures, (omega (arith, fits s (c .enum-told2 .given .1), s .before .read-u32 .ensures), omega arith))
 
 returns-4 : tie.Need-returns-4
 returns-4 c =
@@ -123,7 +123,7 @@ returns-5 : tie.Need-returns-5
 returns-5 c =
     let s = c .before .before .before in
     c .check-stored .ensures
-    ∙ ap₂ (λ (n b : ℕ). counted (stored n (payload s) (at s) b)) (number s) (s .before .read-u32 .ensures)
+    ∙ ap (λ (k : SourceCompression). counted (parseStored k (payload s) (at s))) (sym (known s .1))
     ∙ sym (ap counted (rest s ∙ after-good _ _ (passed _ (framed-is s ∙ c .before .enum-told2 .given .1))))
 
 pub parse-contents-spec : {M : Type 1} → statement M

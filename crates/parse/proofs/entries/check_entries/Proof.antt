@@ -8,7 +8,7 @@ use borrow.Author.Tests.{eq-eqb, ne-eqb}
 use denote.Ref.{now}
 use Rattle.layout.specs.Checked.{check}
 use Rattle.parse.specs.Outcome.{placeOf, counted}
-use Rattle.format.specs.Parse.{entry, entries, contentRow, afterEntry}
+use Rattle.format.specs.Parse.{entry, entries, contentRowAt, afterEntry}
 use Rattle.parse.specs.declared.outcome.Counted.the-variants.{Rows}
 use Rattle.parse.proofs.Count.{add, add-none}
 use Rattle.format.proofs.EntryLaws.{entry-good}
@@ -21,7 +21,7 @@ abbrev Inv-loop : tie.InvT-loop
 Inv-loop payload header count start end at₀ done₀ at done =
     (at ≤ end)
     × (done ≤ count)
-    × (counted (entries header contentRow count payload start end) ≡ add done (counted (entries header contentRow (count - done) payload at end)))
+    × (counted (entries header contentRowAt count payload start end) ≡ add done (counted (entries header contentRowAt (count - done) payload at end)))
 
 abbrev μ-loop : tie.MeasureT-loop
 μ-loop payload header count start end at₀ done₀ at done = count - done
@@ -51,7 +51,7 @@ returns c =
     let s = i .before .before .args in
     let step = entry (s .header) (now (s .payload)) (i .loop .at) (s .end) in
     let e = place-refused (afterEntry (s .header) (i .loop .at)) step _ (sym (entered (c .before .before .before)) ∙ c .before .refusal .given .1) in
-    sym (i .loop .inv .2 ∙ entries-stop _ _ _ contentRow _ _ _ (c .before .before .before .before .loop-test .taken) _ e)
+    sym (i .loop .inv .2 ∙ entries-stop _ _ _ contentRowAt _ _ _ (c .before .before .before .before .loop-test .taken) _ e)
 
 enum-known-next : tie.Need-enum-known-next Inv-loop μ-loop
 enum-known-next c = search needs
@@ -70,7 +70,7 @@ loop-again c =
     let found = place-found (afterEntry (s .header) (i .loop .at)) step _ (sym (entered (c .before .before .before)) ∙ c .before .next .given .1) in (
       omega (arith, found .2, entry-good (s .header) (now (s .payload)) (i .loop .at) (s .end) (found .0) (found .1) .within),
       omega arith,
-      i .loop .inv .2 ∙ rw (found .2) at (entries-turn _ _ _ contentRow _ _ _ (c .before .before .before .before .loop-test .taken) _ (found .1)),
+      i .loop .inv .2 ∙ rw (found .2) at (entries-turn _ _ _ contentRowAt _ _ _ (c .before .before .before .before .loop-test .taken) _ (found .1)),
     )
 
 returns-2 : tie.Need-returns-2 Inv-loop μ-loop

@@ -10,7 +10,7 @@ use Rattle.wire.specs.Length.{wireSize}
 use Rattle.wire.specs.Padding.{allZero}
 use Rattle.layout.specs.Checked.{good, check, then}
 use Rattle.layout.specs.TextCheck.{checkText, verdict}
-use Rattle.layout.specs.Texts.{part}
+use Rattle.layout.specs.Spans.{part}
 use Rattle.layout.specs.declared.refusal.Refusal.the-variants.{Padding}
 use Rattle.format.specs.Parse.{terminatedText}
 use Rattle.parse.proofs.entries.terminated_utf8.Statement.{statement}
@@ -33,15 +33,6 @@ returns c =
     let length : wireSize n - 1 ≡ n = omega arith in
     rw (length, ne-eqb _ 0 (c .if1 .taken))
 
-sub-check-text : tie.Need-sub-check-text
-sub-check-text c = search needs
-
-part-check-text-start : tie.Need-part-check-text-start
-part-check-text-start c = search needs
-
-part-check-text-end : tie.Need-part-check-text-end
-part-check-text-end c = search needs
-
 check-text-requires : tie.Need-check-text-requires
 check-text-requires c κs = search needs
 
@@ -56,7 +47,7 @@ closed :
     let n = s .text .0 in
     let zeros = s .next - (s .at + wireSize n) in
     terminatedText p (s .at) (wireSize n) zeros
-    ≡ then (checkText (part p (s .at) n)) (λ _.
+    ≡ then (checkText p (s .at) n) (λ _.
     check (allZero (part p (s .at + wireSize n) zeros)) Padding (λ _.
     good tt)))
 unfolding terminatedText check
@@ -65,22 +56,12 @@ closed c =
     let length : wireSize n - 1 ≡ n = omega arith in
     rw (length, eq-eqb _ 0 (c .if1 .left))
 
--- the part that is checked is the text
-checked :
-    (c : tie.After-check-text) → (
-    let s = c .before .before .before .before .before .before .args in
-    c .check-text .result ≡ verdict (checkText (part (now (s .payload)) (s .at) (s .text .0))))
-checked c =
-    let s = c .before .before .before .before .before .before .args in
-    let count : s .at + s .text .0 - s .at ≡ s .text .0 = omega arith in
-    c .check-text .ensures ∙ ap (λ (n : ℕ). verdict (checkText (part (now (s .payload)) (s .at) n))) count
-
 returns-2 : tie.Need-returns-2
 unfolding then
 returns-2 c =
-    let s = c .before .before .before .before .before .before .before .before .before .args in
-    let text = checkText (part (now (s .payload)) (s .at) (s .text .0)) in
-    rw (closed (c .before .before .before .before .before), not-passed text _ (sym (checked (c .before .before .before)) ∙ c .before .refusal .given .1))
+    let s = c .before .before .before .before .before .before .before .before .args in
+    let text = checkText (now (s .payload)) (s .at) (s .text .0) in
+    rw (closed (c .before .before .before .before), not-passed text _ (sym (c .before .before .before .check-text .ensures) ∙ c .before .refusal .given .1))
 
 enum-told : tie.Need-enum-told
 enum-told c = search needs
@@ -106,16 +87,16 @@ zeros-requires c κs = search needs
 -- what is left of the tests once the text is known to be one
 texted :
     (c : tie.After-zeros) → (
-    let s = c .before .before .before .before .before .before .before .before .before .before .before .before .args in
+    let s = c .before .before .before .before .before .before .before .before .before .before .before .args in
     let n = s .text .0 in
     terminatedText (now (s .payload)) (s .at) (wireSize n) (s .next - (s .at + wireSize n)) ≡ check (c .zeros .result) Padding (λ _. good tt))
 unfolding then
 texted c =
-    let s = c .before .before .before .before .before .before .before .before .before .before .before .before .args in
-    let text = checkText (part (now (s .payload)) (s .at) (s .text .0)) in
+    let s = c .before .before .before .before .before .before .before .before .before .before .before .args in
+    let text = checkText (now (s .payload)) (s .at) (s .text .0) in
     rw (
-      closed (c .before .before .before .before .before .before .before .before),
-      passed text (sym (checked (c .before .before .before .before .before .before)) ∙ c .before .before .before .before .enum-told .given .1),
+      closed (c .before .before .before .before .before .before .before),
+      passed text (sym (c .before .before .before .before .before .before .check-text .ensures) ∙ c .before .before .before .before .enum-told .given .1),
       ← c .before .before .before .wire-size .ensures,
       ← c .zeros .ensures,
     )
@@ -136,9 +117,6 @@ terminated-utf8-spec =
     add-end
     shared-slice-read-if1
     returns
-    sub-check-text
-    part-check-text-start
-    part-check-text-end
     check-text-requires
     enum-known-refusal
     returns-2

@@ -10,11 +10,11 @@ use denote.Ref.{now}
 use Rattle.wire.specs.Number.{u16At, u32At}
 use Rattle.layout.proofs.Checked.{after-fault, after-good}
 use Rattle.layout.specs.Checked.{good, then}
-use Rattle.layout.specs.Rows.{row}
+use Rattle.table.specs.Rows.{namesRow}
 use Rattle.layout.specs.TextCheck.{verdict}
 use Rattle.layout.specs.declared.text_check.Check.the-variants.{Passed}
 use Rattle.parse.specs.Outcome.{counted}
-use Rattle.format.specs.Parse.{names, framed, entries, nameRow, contentRow}
+use Rattle.format.specs.Parse.{parseNames, framed, entries, nameRowAt, contentRowAt}
 use Rattle.format.proofs.BodyTests.{names-short, names-flag, names-rest}
 use Rattle.parse.proofs.Count.{add, counted-more}
 use Rattle.format.proofs.EntryLaws.{entries-bound}
@@ -39,7 +39,7 @@ module _ (s : tie.After-check-framed) where
   abbrev bytes : ℕ
   bytes = s .before .read-u16 .result
 
-  rest : names payload at size ≡ then (framed payload at size 18 (u16At payload (at + 16))) (λ _. then (entries 16 (nameRow payload) (u32At payload (at + 12)) payload (at + 18) (at + 18 + u16At payload (at + 16))) (λ rows. good (row 2 0 0 0 0 0 0 ∷ rows)))
+  rest : parseNames payload at size ≡ then (framed payload at size 18 (u16At payload (at + 16))) (λ _. then (entries 16 (nameRowAt payload) (u32At payload (at + 12)) payload (at + 18) (at + 18 + u16At payload (at + 16))) (λ rows. good (namesRow ∷ rows)))
   rest = names-rest payload at size (omega arith) (sym (s .before .before .before .read-u32 .ensures) ∙ s .before .before .if2 .left)
 
   framed-is : verdict (framed payload at size 18 (u16At payload (at + 16))) ≡ s .check-framed .result
@@ -52,14 +52,14 @@ module _ (s : tie.After-check-framed) where
       (arith, framed-good payload at size 18 (u16At payload (at + 16)) (passed _ (framed-is ∙ e)) .within)
 
 -- and past the frame the definition counts one row more than the entries
-whole : (e : tie.After-check-entries) → (let s = e .before .before .before .before in counted (names (payload s) (at s) (size s)) ≡ add 1 (e .check-entries .result))
+whole : (e : tie.After-check-entries) → (let s = e .before .before .before .before in counted (parseNames (payload s) (at s) (size s)) ≡ add 1 (e .check-entries .result))
 whole e =
     let s = e .before .before .before .before in
     ap counted (rest s ∙ after-good _ _ (passed _ (framed-is s ∙ e .before .before .enum-told .given .1)))
     ∙ counted-more _ _
     ∙ ap (add 1)
-    (entries-rows _ _ _ (nameRow (payload s)) contentRow _ _
-    ∙ ap₂ (λ (n b : ℕ). counted (entries 16 contentRow n (payload s) (at s + 18) (at s + 18 + b))) (sym (e .before .read-u322 .ensures)) (sym (s .before .read-u16 .ensures))
+    (entries-rows _ _ _ (nameRowAt (payload s)) contentRowAt _ _
+    ∙ ap₂ (λ (n b : ℕ). counted (entries 16 contentRowAt n (payload s) (at s + 18) (at s + 18 + b))) (sym (e .before .read-u322 .ensures)) (sym (s .before .read-u16 .ensures))
     ∙ sym (e .check-entries .ensures))
 
 returns : tie.Need-returns
@@ -134,7 +134,7 @@ add-t19 c =
     let e = c .before .before .before in
     let s = e .before .before .before .before in
     let (rs, found, count) = rows-counted _ _ (sym (e .check-entries .ensures) ∙ c .before .entries .given .1) in
-    omega (arith, entries-bound 16 _ _ contentRow _ _ rs found, count, s .before .read-u16 .ok)
+    omega (arith, entries-bound 16 _ _ contentRowAt _ _ rs found, count, s .before .read-u16 .ok)
 
 returns-4 : tie.Need-returns-4
 returns-4 c = sym (whole (c .before .before .before) ∙ ap (add 1) (c .before .refusal2 .given .1))

@@ -6,7 +6,7 @@ use native.Mathlib.Omega.{arith}
 use borrow.Author.Needs.{needs}
 use denote.Ref.{now}
 use Rattle.parse.specs.Outcome.{counted}
-use Rattle.format.specs.Parse.{sections}
+use Rattle.format.specs.Parse.{parseSections}
 use Rattle.format.proofs.SectionTests.{parse-oversize, parse-short, parse-ragged, parse-length, parse-flags, parse-rest}
 use Rattle.parse.proofs.source_info.parse_srci.Statement.{statement}
 use Rattle.parse.proofs.source_info.parse_srci.Tie as tie
@@ -58,7 +58,7 @@ returns-6 c =
     let r = f .before .before in
     let p = now (r .before .before .before .before .before .args .payload) in
     c .parse-sections .ensures
-    ∙ ap (λ (n : ℕ). counted (sections n p 8)) (c .before .read-u162 .ensures)
+    ∙ ap (λ (n : ℕ). counted (parseSections n p 8)) (c .before .read-u162 .ensures)
     ∙ sym
     (ap counted
     (parse-rest p (omega arith) (omega arith) (r .before .if3 .left)

@@ -1,36 +1,36 @@
--- `public_copy::names::copy_entries` meets its contract. The loop's invariant: the entries that are left are good, and their copies, stored from here on, give the output that all give.
+-- `public_copy::names::copy_entries` meets its contract. The loop's invariant: the entries that are left are good, and their copies are left to store.
 -- Assumes nothing.
 use Prim.Native.Nat.{suc, _+_, _-_, _≤_}
 use mathlib.Core.Bool.{true}
-use mathlib.Core.Path.{_≡_, refl, ap, _∙_}
+use mathlib.Core.Path.{_≡_, refl, sym, ap, _∙_}
 use native.Mathlib.Nat.{sub-zero}
 use native.Mathlib.Omega.{arith}
 use borrow.Author.Needs.{needs}
 use lib.ListN.{length}
-use lib.Seq.{sets}
 use Rattle.wire.specs.Number.{u32At}
 use Rattle.layout.specs.Checked.{isGood}
 use Rattle.layout.proofs.Checked.{is-good}
-use Rattle.format.specs.CopyWalk.{nameCopies}
-use Rattle.format.specs.Parse.{entries, nameRow}
+use Rattle.format.specs.CopyWalk.{nameCopy, nameCopies}
+use Rattle.format.specs.Parse.{entries, nameRowAt}
+use Rattle.format.proofs.Storing.{Left, left-all, left-next, left-none}
 use Rattle.format.proofs.Walking.{one-fewer}
-use Rattle.public_copy.proofs.NamesLaws.{name-stored, name-long, First, first-entry, names-step}
+use Rattle.public_copy.proofs.NamesLaws.{name-stored, name-long, First, first-entry, names-next, names-end}
 use Rattle.public_copy.proofs.names.copy_entries.Statement.{statement}
 use Rattle.public_copy.proofs.names.copy_entries.Tie as tie
 
 abbrev Inv-loop : tie.InvT-loop
 Inv-loop payload count start end output₀ to at₀ next₀ done₀ output at next done =
     (done ≤ count)
-    × (isGood (entries 16 (nameRow payload) (count - done) payload at end) ≡ true)
+    × (isGood (entries 16 (nameRowAt payload) (count - done) payload at end) ≡ true)
     × (next ≤ at)
-    × (sets output next (nameCopies payload (count - done) at) ≡ sets output₀ to (nameCopies payload count start))
+    × Left output₀ to (nameCopies payload count start) output next (nameCopies payload (count - done) at)
     × (length output ≡ length output₀)
 
 abbrev μ-loop : tie.MeasureT-loop
 μ-loop payload count start end output₀ to at₀ next₀ done₀ output at next done = count - done
 
 loop-holds : tie.Need-loop-holds Inv-loop μ-loop
-loop-holds c = (omega arith, rw sub-zero (c .before .before .pre .0), c .before .before .pre .1 .1 .1, rw sub-zero, refl)
+loop-holds c = (omega arith, rw sub-zero (c .before .before .pre .0), c .before .before .pre .1 .1 .1, left-all (rw sub-zero), refl)
 
 -- the entry at a turn's place, and those after it
 turn :
@@ -44,7 +44,7 @@ turn c =
     let a = s .args in
     let p = a .payload .now in
     let left = a .count - (i .loop .done + 1) in
-    let found = is-good (entries 16 (nameRow p) (suc left) p (i .loop .at) (a .end)) (rw (one-fewer (a .count) (i .loop .done) (c .loop-test .taken)) at (i .loop .inv .1)) in
+    let found = is-good (entries 16 (nameRowAt p) (suc left) p (i .loop .at) (a .end)) (rw (one-fewer (a .count) (i .loop .done) (c .loop-test .taken)) at (i .loop .inv .1)) in
     first-entry p (a .end) (s .pre .1 .0) left (i .loop .at) (found .0) (found .1)
 
 read-u32-requires : tie.Need-read-u32-requires Inv-loop μ-loop
@@ -108,17 +108,20 @@ loop-again c =
     let a = s .args in
     let p = a .payload .now in
     let at = i .loop .at in
-    let left = a .count - (i .loop .done + 1) in
+    let next = i .loop .next in
+    let size = u32At p at in
     let t = turn (r .before) in
     let is = r .read-u32 .ensures in
-    let span : at + u32At p at - at ≡ u32At p at = omega arith in
-    let fewer = one-fewer (a .count) (i .loop .done) (r .before .loop-test .taken) in
-    let long = name-long p at (u32At p at) (t .least) (omega (arith, t .within)) refl in
-    let here = name-stored p at (u32At p at) (t .least) (omega (arith, t .within)) refl (i .loop .output) (i .loop .next) _ refl in (
+    let span : at + size - at ≡ size = omega arith in
+    let within : at + size ≤ length p = omega (arith, t .within) in
+    let here = name-stored p at size (t .least) within refl (i .loop .output) next _ refl in (
       omega arith,
       rw is (ap isGood (t .others)),
       omega arith,
-      rw (u .write-u32 .ensures, w .write-bytes .ensures, is, span, here) (names-step p left at (i .loop .next) (i .loop .output) _ long (rw fewer at (i .loop .inv .3))),
+      rw is
+          (left-next (nameCopy p at) _ (names-next p (a .count) (i .loop .done) (r .before .loop-test .taken) at) (i .loop .inv .3)
+          (ap (λ k. next + k) (sym (name-long p at size (t .least) within refl)))
+          (rw (u .write-u32 .ensures, w .write-bytes .ensures, is, span) here)),
       u .write-u32 .kept .0 ∙ w .write-bytes .kept .0 ∙ i .loop .inv .4,
     )
 
@@ -126,12 +129,10 @@ same-length : tie.Need-same-length Inv-loop μ-loop
 same-length c = search needs
 
 returns : tie.Need-returns Inv-loop μ-loop
-unfolding nameCopies
 returns c =
     let i = c .before .loop in
     let a = c .before .before .before .before .args in
-    let none : a .count - i .done ≡ 0 = omega arith in
-    rw none at (i .inv .3)
+    left-none (names-end (a .payload .now) (a .count) (i .done) (omega arith) (i .at)) (i .inv .3) .1
 
 pub copy-entries-spec : {M : Type 1} → statement M
 copy-entries-spec =

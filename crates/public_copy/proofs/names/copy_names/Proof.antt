@@ -7,9 +7,9 @@ use native.Mathlib.Omega.{arith}
 use borrow.Author.Needs.{needs}
 use Rattle.wire.specs.Number.{u16At, u32At}
 use Rattle.layout.specs.Checked.{good, isGood}
-use Rattle.layout.specs.declared.row.Row.{Row}
+use Rattle.table.specs.declared.row.Row.{Row}
 use Rattle.layout.proofs.Checked.{is-good}
-use Rattle.format.specs.Parse.{entries, nameRow}
+use Rattle.format.specs.Parse.{entries, nameRowAt}
 use Rattle.format.proofs.SectionLaws.{names-good}
 use Rattle.public_copy.proofs.NamesLaws.{section-long, section-stored}
 use Rattle.public_copy.proofs.names.copy_names.Statement.{statement}
@@ -21,7 +21,7 @@ told :
     (let p = c .args .payload .now in
     let at = c .args .at in
     (18 + u16At p (at + 16) ≤ u32At p at)
-    × ((rest : List Row) × (entries 16 (nameRow p) (u32At p (at + 12)) p (at + 18) (at + 18 + u16At p (at + 16)) ≡ good rest)))
+    × ((rest : List Row) × (entries 16 (nameRowAt p) (u32At p (at + 12)) p (at + 18) (at + 18 + u16At p (at + 16)) ≡ good rest)))
 told c =
     let p = c .args .payload .now in
     let at = c .args .at in

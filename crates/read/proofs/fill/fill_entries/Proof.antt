@@ -9,19 +9,20 @@ use lib.ListN.{length}
 use Rattle.format.specs.Walk.{walkEntries, entriesEnd}
 use Rattle.format.proofs.Walking.{entries-forward, entries-end-step}
 use Rattle.read.proofs.fill.fill_entries.Statement.{statement}
+use Rattle.read.specs.Entry.{entryRow}
 use Rattle.read.specs.Store.{storeRows}
 use Rattle.read.proofs.StoreSteps.{entries-store-step, entries-store-done}
 use Rattle.read.proofs.fill.fill_entries.Tie as tie
 
 abbrev Inv-loop : tie.InvT-loop
-Inv-loop payload header count start rows₀ index at₀ done₀ rows at done =
+Inv-loop payload kind count start rows₀ index at₀ done₀ rows at done =
     (done ≤ count)
     × (entriesEnd payload (count - done) at ≤ length payload)
-    × (storeRows rows (index + done) (walkEntries payload header (count - done) at) ≡ storeRows rows₀ index (walkEntries payload header count start))
+    × (storeRows rows (index + done) (walkEntries payload (entryRow payload kind) (count - done) at) ≡ storeRows rows₀ index (walkEntries payload (entryRow payload kind) count start))
     × (length rows ≡ length rows₀)
 
 abbrev μ-loop : tie.MeasureT-loop
-μ-loop payload header count start rows₀ index at₀ done₀ rows at done = count - done
+μ-loop payload kind count start rows₀ index at₀ done₀ rows at done = count - done
 
 loop-holds : tie.Need-loop-holds Inv-loop μ-loop
 loop-holds c = simp (sub-zero, add-zero) (search needs)
@@ -82,7 +83,7 @@ loop-again c =
     let a = i .before .before .before .args in (
       omega arith,
       next c,
-      cc (entries-store-step (a .payload .now) (a .count) (i .loop .done) (turn .loop-test .taken) (a .header) (i .loop .at) (a .index) (i .loop .rows)),
+      cc (entries-store-step (a .payload .now) (a .count) (i .loop .done) (turn .loop-test .taken) (entryRow (a .payload .now) (a .kind)) (i .loop .at) (a .index) (i .loop .rows)),
       store .store .kept .1 .0 ∙ i .loop .inv .3,
     )
 
@@ -93,7 +94,7 @@ returns : tie.Need-returns Inv-loop μ-loop
 returns c =
     let i = c .before in
     let a = i .before .before .before .args in
-    sym (entries-store-done (a .payload .now) (a .count) (i .loop .done) (c .loop-test .left) (a .header) (i .loop .at) (a .index + i .loop .done) (i .loop .rows)) ∙ i .loop .inv .2
+    sym (entries-store-done (a .payload .now) (a .count) (i .loop .done) (c .loop-test .left) (entryRow (a .payload .now) (a .kind)) (i .loop .at) (a .index + i .loop .done) (i .loop .rows)) ∙ i .loop .inv .2
 
 pub fill-entries-spec : {M : Type 1} → statement M
 fill-entries-spec =

@@ -6,7 +6,7 @@ use native.Mathlib.Nat.{add-zero, sub-zero}
 use native.Mathlib.Omega.{arith}
 use borrow.Author.Needs.{needs}
 use lib.ListN.{length}
-use Rattle.format.specs.Walk.{pairRow, walkPairs, pairsEnd}
+use Rattle.format.specs.Walk.{pairAt, walkPairs, pairsEnd}
 use Rattle.format.proofs.Walking.{pairs-forward, pairs-end-step}
 use Rattle.read.proofs.fill.fill_pairs.Statement.{statement}
 use Rattle.format.specs.Parse.{afterPair}
@@ -32,7 +32,7 @@ next :
     (c : tie.In-loop Inv-loop μ-loop) →
     (let i = c .before in
     let a = i .before .before .before .args in
-    pairsEnd (a .payload .now) (a .count - (i .loop .done + 1)) (afterPair (pairRow (a .payload .now) (i .loop .at))) ≤ length (a .payload .now))
+    pairsEnd (a .payload .now) (a .count - (i .loop .done + 1)) (afterPair (pairAt (a .payload .now) (i .loop .at))) ≤ length (a .payload .now))
 next c =
     let i = c .before in
     let a = i .before .before .before .args in
@@ -42,7 +42,7 @@ pair-row-requires : tie.Need-pair-row-requires Inv-loop μ-loop
 pair-row-requires c κs =
     let i = c .before in
     let a = i .before .before .before .args in
-    let forward = pairs-forward (a .payload .now) (a .count - (i .loop .done + 1)) (afterPair (pairRow (a .payload .now) (i .loop .at))) in
+    let forward = pairs-forward (a .payload .now) (a .count - (i .loop .done + 1)) (afterPair (pairAt (a .payload .now) (i .loop .at))) in
     omega (arith, next c, i .before .before .before .pre .1 .0)
 
 cast-store : tie.Need-cast-store Inv-loop μ-loop
@@ -71,15 +71,17 @@ loop-less c = omega arith
 
 loop-again : tie.Need-loop-again Inv-loop μ-loop
 loop-again c =
-    let store = c .before .before .before .before .before in
+    let size = c .before in
+    let store = size .before .before .before .before in
     let row = store .before .before in
     let turn = row .before in
     let i = turn .before in
     let a = i .before .before .before .args in
-    let after = ap afterPair (row .pair-row .ensures) in (
+    let after : row .pair-row .result .c + size .wire-size .result .0 ≡ afterPair (pairAt (a .payload .now) (i .loop .at)) =
+    rw (size .wire-size .ensures) (ap afterPair (row .pair-row .ensures)) in (
       omega arith,
-      rw (c .before .wire-size .ensures, after) (next turn),
-      rw (c .before .wire-size .ensures, after) (cc (pairs-store-step (a .payload .now) (a .count) (i .loop .done) (turn .loop-test .taken) (i .loop .at) (a .index) (i .loop .rows))),
+      rw after (next turn),
+      rw after (cc (pairs-store-step (a .payload .now) (a .count) (i .loop .done) (turn .loop-test .taken) (i .loop .at) (a .index) (i .loop .rows))),
       store .store .kept .1 .0 ∙ i .loop .inv .3,
     )
 

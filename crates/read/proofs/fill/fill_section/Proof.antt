@@ -4,40 +4,37 @@ use mathlib.Core.List.{List}
 use mathlib.Core.Path.{_≡_, sym, ap, _∙_}
 use native.Mathlib.Omega.{arith}
 use borrow.Author.Needs.{needs}
-use Rattle.wire.specs.Number.{u16At, u32At}
+use Rattle.wire.specs.Number.{u32At}
 use Rattle.layout.specs.Checked.{good}
-use Rattle.layout.specs.Kinds.{sectionType, kind}
-use Rattle.layout.specs.declared.row.Row.{Row}
+use Rattle.layout.specs.Kinds.{sectionType}
 use Rattle.layout.specs.declared.section_type.SourceInfoSectionType.{SourceInfoSectionType}
 use Rattle.layout.specs.declared.section_type.SourceInfoSectionType.the-variants.{SourceContents, SourceNames, Arguments}
-use Rattle.layout.proofs.Promises.{kind-has-number}
-use Rattle.format.specs.Parse.{body}
-use Rattle.format.specs.Walk.{entriesEnd, pairsEnd, walkSection}
 use Rattle.layout.proofs.Checked.{is-good}
-use Rattle.format.proofs.Walking.{length-walkEntries, entries-forward, length-walkPairs, pairs-forward, unknown-walk}
+use Rattle.table.specs.declared.row.Row.{Row}
+use Rattle.format.specs.Parse.{parseSection, kindAt}
+use Rattle.format.specs.Walk.{nameAt, entriesEnd, pairsEnd, walkSection}
+use Rattle.format.proofs.Walking.{length-walkEntries, entries-forward, length-walkPairs, pairs-forward}
 use Rattle.format.proofs.WalkLaws.{names-walk, arguments-walk}
-use Rattle.read.proofs.fill.fill_section.Statement.{statement}
 use Rattle.read.specs.Store.{storeRows}
+use Rattle.read.proofs.fill.fill_section.Statement.{statement}
 use Rattle.read.proofs.fill.fill_section.Tie as tie
 
--- the kind's number, and the good body of that kind
+-- the section's kind, and the good section of that kind
 kind-told :
     (c : tie.After-from-u16) (t : SourceInfoSectionType) →
     c .from-u16 .result ≡ t →
-    (let a = c .before .before .before .before .args in u16At (a .payload .now) (a .at + 6) ≡ kind t)
-kind-told c t e =
-    let number = c .before .read-u16 in
-    sym (number .ensures) ∙ sym (kind-has-number (number .result)) ∙ ap kind (sym (c .from-u16 .ensures) ∙ e)
+    (let a = c .before .before .before .before .args in kindAt (a .payload .now) (a .at) ≡ t)
+kind-told c t e = ap sectionType (sym (c .before .read-u16 .ensures)) ∙ sym (c .from-u16 .ensures) ∙ e
 
-body-told :
+section-told :
     (c : tie.After-from-u16) (t : SourceInfoSectionType) →
     c .from-u16 .result ≡ t →
     (let a = c .before .before .before .before .args in
-    (rs : List Row) × (body (kind t) (a .payload .now) (a .at) (u32At (a .payload .now) (a .at)) ≡ good rs))
-body-told c t e = is-good _ (rw (kind-told c t e) at (c .before .before .before .before .pre .0))
+    (rs : List Row) × (parseSection t (a .payload .now) (a .at) (u32At (a .payload .now) (a .at)) ≡ good rs))
+section-told c t e = is-good _ (rw (kind-told c t e) at (c .before .before .before .before .pre .0))
 
 fill-contents-requires : tie.Need-fill-contents-requires
-unfolding body
+unfolding parseSection
 fill-contents-requires c κs =
     let told = c .before in
     let section = told .before .before in
@@ -49,11 +46,11 @@ names-within :
     (c : tie.After-enum-told2) →
     (let a = c .before .before .before .before .before .before .args in
     entriesEnd (a .payload .now) (u32At (a .payload .now) (a .at + 12)) (a .at + 18) ≤ a .at + u32At (a .payload .now) (a .at))
-unfolding body
+unfolding parseSection
 names-within c =
     let section = c .before .before in
     let a = section .before .before .before .before .args in
-    let whole = body-told section SourceNames (c .enum-told2 .given .1) in
+    let whole = section-told section SourceNames (c .enum-told2 .given .1) in
     names-walk (a .payload .now) (a .at) (u32At (a .payload .now) (a .at)) (whole .0) (whole .1) .1
 
 fill-entries-requires : tie.Need-fill-entries-requires
@@ -73,11 +70,11 @@ arguments-within :
     (c : tie.After-enum-told3) →
     (let a = c .before .before .before .before .before .before .args in
     pairsEnd (a .payload .now) (u32At (a .payload .now) (a .at + 16)) (a .at + 20) ≤ a .at + u32At (a .payload .now) (a .at))
-unfolding body
+unfolding parseSection
 arguments-within c =
     let section = c .before .before in
     let a = section .before .before .before .before .args in
-    let whole = body-told section Arguments (c .enum-told3 .given .1) in
+    let whole = section-told section Arguments (c .enum-told3 .given .1) in
     arguments-walk (a .payload .now) (a .at) (u32At (a .payload .now) (a .at)) (whole .0) (whole .1) .1
 
 fill-pairs-requires : tie.Need-fill-pairs-requires
@@ -92,9 +89,6 @@ fill-pairs-requires c κs =
       pairs-forward (a .payload .now) (u32At (a .payload .now) (a .at + 16)) (a .at + 20),
       start .pre .1,
     ))
-
-unknown-row-requires : tie.Need-unknown-row-requires
-unknown-row-requires c κs = omega (arith, c .before .before .before .before .before .before .before .pre .1)
 
 returns : tie.Need-returns
 unfolding walkSection
@@ -111,8 +105,8 @@ returns-2 c =
     let section = told .before .before in
     let a = section .before .before .before .before .args in
     rw (kind-told section SourceNames (told .enum-told2 .given .1)) (
-      omega (arith, count .read-u32 .ensures, length-walkEntries (a .payload .now) 16 (u32At (a .payload .now) (a .at + 12)) (a .at + 18)),
-      rw (c .before .before .fill-entries .ensures, count .read-u32 .ensures, count .before .before .before .store .ensures, count .before .before .before .before .before .bare-row .ensures),
+      omega (arith, count .read-u32 .ensures, length-walkEntries (a .payload .now) (nameAt (a .payload .now)) (u32At (a .payload .now) (a .at + 12)) (a .at + 18)),
+      rw (c .before .before .fill-entries .ensures, count .read-u32 .ensures, count .before .before .before .store .ensures, count .before .before .before .before .before .names .ensures),
     )
 
 returns-3 : tie.Need-returns-3
@@ -124,18 +118,15 @@ returns-3 c =
     let a = section .before .before .before .before .args in
     rw (kind-told section Arguments (told .enum-told3 .given .1)) (
       omega (arith, count .read-u322 .ensures, length-walkPairs (a .payload .now) (u32At (a .payload .now) (a .at + 16)) (a .at + 20)),
-      rw (c .before .before .fill-pairs .ensures, count .read-u322 .ensures, count .before .before .before .store2 .ensures, count .before .before .before .before .before .bare-row2 .ensures),
+      rw (c .before .before .fill-pairs .ensures, count .read-u322 .ensures, count .before .before .before .store2 .ensures, count .before .before .before .before .before .arguments .ensures),
     )
 
 returns-4 : tie.Need-returns-4
-unfolding storeRows
+unfolding storeRows walkSection
 returns-4 c =
-    let told = c .before .before .before .before .before .before in
-    let section = told .before .before in
-    let a = section .before .before .before .before .args in
-    let number = kind-told section _ (told .kind .given .1) in
-    let type = ap sectionType (sym (section .before .read-u16 .ensures)) ∙ sym (section .from-u16 .ensures) ∙ told .kind .given .1 in
-    rw (unknown-walk (a .payload .now) _ _ (a .at) type) (omega arith, cc)
+    let head = c .before .before in
+    let told = head .before .before .before .before in
+    rw (kind-told (told .before .before) _ (told .kind .given .1)) (omega arith, rw (head .store3 .ensures, head .before .before .unknown-row .ensures))
 
 pub fill-section-spec : {M : Type 1} → statement M
 fill-section-spec =
@@ -169,7 +160,7 @@ fill-section-spec =
     (λ c. search needs)
     (λ c. search needs)
     (λ c. search needs)
-    unknown-row-requires
+    (λ c κs. search needs)
     (λ c κs. search needs)
     (λ c. search needs)
     (λ c. search needs)

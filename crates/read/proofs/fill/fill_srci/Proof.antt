@@ -2,7 +2,7 @@
 -- the table that the whole walk gives, and no index is past its place.
 use Prim.Native.Nat.{ℕ, suc, _+_, _-_, _*_, _≤_}
 use mathlib.Core.Bool.{true}
-use mathlib.Core.List.{List}
+use mathlib.Core.List.{List, flatMap}
 use mathlib.Core.Path.{_≡_, refl, sym, ap, _∙_}
 use native.Mathlib.Nat.{sub-zero}
 use native.Mathlib.Omega.{arith}
@@ -11,24 +11,24 @@ use lib.ListN.{length}
 use Rattle.wire.specs.Number.{u16At, u32At}
 use Rattle.layout.specs.Checked.{isGood}
 use Rattle.format.specs.Encoding.{limit}
-use Rattle.format.specs.Parse.{body, sections}
-use Rattle.format.specs.Walk.{walkSection, walkSections, walk}
+use Rattle.format.specs.Parse.{parseSection, kindAt, parseSections}
+use Rattle.format.specs.Walk.{placesFrom, places, rowsAt, walk}
 use Rattle.layout.proofs.Checked.{is-good}
-use Rattle.format.proofs.RowCount.{body-count}
+use Rattle.format.proofs.RowCount.{section-count}
 use Rattle.format.proofs.SectionLaws.{sections-good, parse-good}
 use Rattle.format.proofs.Walking.{one-fewer}
-use Rattle.format.proofs.WalkLaws.{body-walk}
-use Rattle.read.proofs.fill.fill_srci.Statement.{statement}
+use Rattle.format.proofs.WalkLaws.{section-walk}
 use Rattle.read.specs.Store.{storeRows}
 use Rattle.read.proofs.StoreSteps.{sections-store-step, sections-store-done}
+use Rattle.read.proofs.fill.fill_srci.Statement.{statement}
 use Rattle.read.proofs.fill.fill_srci.Tie as tie
 
 abbrev Inv-loop : tie.InvT-loop
 Inv-loop payload rows₀ count at₀ index₀ done₀ rows at index done =
     (done ≤ count)
-    × (isGood (sections (count - done) payload at) ≡ true)
+    × (isGood (parseSections (count - done) payload at) ≡ true)
     × (index ≤ at)
-    × (storeRows rows index (walkSections payload (count - done) at) ≡ storeRows rows₀ 0 (walk payload))
+    × (storeRows rows index (flatMap (rowsAt payload) (placesFrom payload (count - done) at)) ≡ storeRows rows₀ 0 (walk payload))
     × (length rows ≡ length rows₀)
 
 abbrev μ-loop : tie.MeasureT-loop
@@ -38,23 +38,23 @@ read-u16-requires : tie.Need-read-u16-requires Inv-loop μ-loop
 read-u16-requires c κs = search needs
 
 -- the payload is within the limit, and its sections are good
-whole : (c : tie.Start Inv-loop μ-loop) → (let p = c .args .payload .now in (length p ≤ limit) × (isGood (sections (u16At p 6) p 8) ≡ true))
+whole : (c : tie.Start Inv-loop μ-loop) → (let p = c .args .payload .now in (length p ≤ limit) × (isGood (parseSections (u16At p 6) p 8) ≡ true))
 whole c =
     let read = is-good _ (c .pre) in
     let told = parse-good (c .args .payload .now) (read .0) (read .1) in
     (told .0, ap isGood (told .1))
 
 loop-holds : tie.Need-loop-holds Inv-loop μ-loop
-unfolding walk
+unfolding walk places
 loop-holds c = rw (sub-zero, c .read-u16 .ensures) (omega arith, whole (c .before .before .before) .1, omega arith, refl, refl)
 
 -- what a turn is told of the section at its place and of those after it
 record Turn (p : List ℕ) (at left : ℕ) : Type 0 where
   header : 8 ≤ u32At p at
   within : at + u32At p at ≤ length p
-  this : isGood (body (u16At p (at + 6)) p at (u32At p at)) ≡ true
-  rest : isGood (sections left p (at + u32At p at)) ≡ true
-  rows : 2 * length (walkSection p (u16At p (at + 6)) at) ≤ u32At p at
+  this : isGood (parseSection (kindAt p at) p at (u32At p at)) ≡ true
+  rest : isGood (parseSections left p (at + u32At p at)) ≡ true
+  rows : 2 * length (rowsAt p at) ≤ u32At p at
 
 turn :
     (c : tie.In-loop Inv-loop μ-loop) →
@@ -67,15 +67,14 @@ turn c =
     let count = i .before .read-u16 .result in
     let left = count - (i .loop .done + 1) in
     let p = i .before .before .before .before .args .payload .now in
-    let read = is-good (sections (suc left) p at) (rw (one-fewer count (i .loop .done) (c .loop-test .taken)) at (i .loop .inv .1)) in
+    let read = is-good (parseSections (suc left) p at) (rw (one-fewer count (i .loop .done) (c .loop-test .taken)) at (i .loop .inv .1)) in
     let told = sections-good p at left (read .0) (read .1) in
-    let kind = u16At p (at + 6) in
     record {
       header = told .header;
       within = told .within;
       this = ap isGood (told .first-good);
       rest = ap isGood (told .rest-good);
-      rows = rw (← body-walk p at kind (told .first) (told .first-good)) (body-count p at (u32At p at) (told .first) kind (told .header) (told .first-good));
+      rows = rw (← section-walk p at (kindAt p at) (told .first) (told .first-good)) (section-count p at (u32At p at) (told .first) (kindAt p at) (told .header) (told .first-good));
     }
 
 fill-section-requires : tie.Need-fill-section-requires Inv-loop μ-loop

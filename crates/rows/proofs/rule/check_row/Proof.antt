@@ -1,37 +1,42 @@
--- `check_row` meets its contract: the side says which bytes `sideOf` names, and no other side than 0 and 1 obeys the rules.
+-- `check_row` meets its contract: the rule decides whether the texts count.
 -- Assumes nothing.
-use native.Mathlib.Omega.{arith}
 use borrow.Author.Needs.{needs}
-use borrow.Author.Tests.{le-leb, lt-leb}
 use Rattle.layout.specs.Checked.{check}
-use Rattle.layout.proofs.Texts.{sideOf-payload, sideOf-edit}
 use Rattle.format.specs.Rules.{obeys, checkRow}
-use Rattle.rows.proofs.Rules.{past-arms}
 use Rattle.rows.proofs.rule.check_row.Statement.{statement}
 use Rattle.rows.proofs.rule.check_row.Tie as tie
 
-check-sided-requires : tie.Need-check-sided-requires
-check-sided-requires c κs = search needs
+from-u32-requires : tie.Need-from-u32-requires
+from-u32-requires c κs = search needs
 
-check-sided-requires-2 : tie.Need-check-sided-requires-2
-check-sided-requires-2 c κs = search needs
+tag-rule-requires : tie.Need-tag-rule-requires
+tag-rule-requires c κs = search needs
+
+spans-inside-requires : tie.Need-spans-inside-requires
+spans-inside-requires c κs = search needs
+
+check-texts-requires : tie.Need-check-texts-requires
+check-texts-requires c κs = search needs
 
 returns : tie.Need-returns
-unfolding checkRow obeys
+unfolding checkRow obeys check
 returns c =
-    let side = c .before .before .before .before .args .row .side in
-    rw (le-leb side 1 (omega arith), sideOf-payload _ _ (c .before .match .keys1)) (c .check-sided .ensures)
+    let s = c .before .before in
+    rw (← s .before .before .from-u32 .ensures, ← s .before .tag-rule .ensures, ← s .spans-inside .ensures, c .before .if1 .taken) (c .check-texts .ensures)
 
 returns-2 : tie.Need-returns-2
-unfolding checkRow obeys
-returns-2 c =
-    let side = c .before .before .before .before .args .row .side in
-    rw (le-leb side 1 (omega arith), sideOf-edit _ _ side (λ e. omega arith)) (c .check-sided2 .ensures)
-
-returns-3 : tie.Need-returns-3
 unfolding checkRow obeys check
-returns-3 c = rw (lt-leb _ 1 (past-arms 2 _ (c .match .rest)))
+returns-2 c =
+    let s = c .before in
+    rw (← s .before .before .from-u32 .ensures, ← s .before .tag-rule .ensures, ← s .spans-inside .ensures, c .if1 .left)
 
 pub check-row-spec : {M : Type 1} → statement M
 check-row-spec =
-    tie.close (tie.spec check-sided-requires check-sided-requires-2 returns returns-2 returns-3)
+    tie.close
+    (tie.spec
+    from-u32-requires
+    tag-rule-requires
+    spans-inside-requires
+    check-texts-requires
+    returns
+    returns-2)

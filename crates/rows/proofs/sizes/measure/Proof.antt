@@ -5,7 +5,7 @@ use borrow.Author.Needs.{needs}
 use borrow.Author.Tests.{eq-eqb, ne-eqb}
 use denote.Ref.{now}
 use Rattle.layout.specs.Checked.{check}
-use Rattle.layout.specs.Rows.{rowsOf}
+use Rattle.table.specs.Rows.{rowsOf}
 use Rattle.format.specs.Write.{writtenTable}
 use Rattle.rows.proofs.Measured.{measured-is-written}
 use Rattle.rows.proofs.sizes.measure.Statement.{statement}

@@ -10,8 +10,8 @@ use borrow.Author.Needs.{needs}
 use denote.Ref.{now}
 use lib.ListN.{length, drop, drop-of-length-le}
 use lib.Seq.{drop-cons}
-use Rattle.layout.specs.Rows.{rowsOf, noRow}
-use Rattle.layout.proofs.Rows.{length-rowsOf}
+use Rattle.table.specs.Rows.{rowsOf, noRow}
+use Rattle.table.proofs.Rows.{length-rowsOf}
 use Rattle.rows.specs.Measure.{measured, nothing, measureFrom}
 use Rattle.rows.proofs.Laws.{Bounded, advance-bounded, measure-refused, measure-passed}
 use Rattle.rows.proofs.sizes.measure_rows.Statement.{statement}

@@ -10,14 +10,15 @@ use lib.ListN.{length, drop}
 use lib.Seq.{sets}
 use Rattle.wire.specs.Padding.{aligned}
 use Rattle.wire.proofs.NumberLaws.{fields-stored}
-use Rattle.layout.specs.Rows.{rowsOf}
-use Rattle.layout.specs.declared.row.Row.{Row}
-use Rattle.layout.proofs.Rows.{length-rowsOf}
+use Rattle.table.specs.Rows.{rowsOf}
+use Rattle.table.specs.declared.row.Row.{Row}
+use Rattle.table.specs.declared.tag.Tag.the-variants.{Pair}
+use Rattle.table.proofs.Rows.{length-rowsOf}
 use Rattle.format.specs.Encoding.{u32, limit}
 use Rattle.write.specs.declared.position.Position.{Position}
 use Rattle.write.specs.Run.{runBytes}
 use Rattle.write.specs.Section.{entryCount}
-use Rattle.write.proofs.SectionParts.{Arguments, arguments-parts, run-many, within, told}
+use Rattle.write.proofs.SectionParts.{Arguments, arguments-parts, pairs-many, within, told}
 use Rattle.write.proofs.section.store_arguments.Statement.{statement}
 use Rattle.write.proofs.section.store_arguments.Tie as tie
 
@@ -42,7 +43,7 @@ module _ (c : tie.After-write-run-arg) where
   rest = drop (p .index + 1) rows
 
   abbrev bytes : List ℕ
-  bytes = runBytes payload edit 7 rest
+  bytes = runBytes payload edit Pair rest
 
   parts : Arguments payload edit rows (p .index)
   parts = arguments-parts payload edit rows (p .index) (s .pre .1)
@@ -86,7 +87,7 @@ sub-write-u32-2 c = search needs
 cast-write-u32-2 : tie.Need-cast-write-u32-2
 cast-write-u32-2 c =
     let w = c .before .before .before .before .before .before .before .before .before .before .before .before in
-    omega (arith, small w .0, run-many (payload w) (edit w) 7 (omega arith) (rest w))
+    omega (arith, small w .0, pairs-many (payload w) (edit w) (rest w))
 
 write-u32-requires-3 : tie.Need-write-u32-requires-3
 write-u32-requires-3 c κs = search needs
@@ -109,9 +110,9 @@ returns c =
     let w = run .before in
     let at = p w .at in
     let output = s w .args .output .now in
-    let count : run .write-run .result .index - (p w .index + 1) ≡ entryCount 7 (rest w) = omega arith in
+    let count : run .write-run .result .index - (p w .index + 1) ≡ entryCount Pair (rest w) = omega arith in
     let size : run .write-run .result .at - (at + 20) ≡ length (bytes w) = omega arith in
-    let fields = fields-stored 0 4 (length (bytes w)) (u32 (entryCount 7 (rest w))) (sets output (at + 20) (bytes w)) (at + 8) (at + 12) (at + 16) (omega arith) (omega arith) in
+    let fields = fields-stored 0 4 (length (bytes w)) (u32 (entryCount Pair (rest w))) (sets output (at + 20) (bytes w)) (at + 8) (at + 12) (at + 16) (omega arith) (omega arith) in
     told (payload w) (edit w) (rows w) (p w) (s w .pre .1) (parts w) (run .write-run .ensures .1 .0) output (third .write-u323 .last .0)
     (run .write-run .ensures .0)
     (rw (third .write-u323 .ensures, second .write-u322 .ensures, first .write-u32 .ensures, run .write-run .ensures .1 .1, count, size) fields)

@@ -7,12 +7,14 @@ use native.Mathlib.Nat.{add-zero}
 use native.Mathlib.Omega.{arith}
 use borrow.Author.Needs.{needs}
 use lib.ListN.{length}
+use lib.Seq.{sets}
 use Rattle.wire.specs.Padding.{aligned}
-use Rattle.layout.specs.Rows.{rowsOf}
-use Rattle.layout.specs.declared.row.Row.{Row}
-use Rattle.layout.proofs.Rows.{length-rowsOf}
+use Rattle.table.specs.Rows.{rowsOf}
+use Rattle.table.specs.declared.row.Row.{Row}
+use Rattle.table.proofs.Rows.{length-rowsOf}
 use Rattle.format.specs.Encoding.{limit}
 use Rattle.write.specs.declared.position.Position.{Position}
+use Rattle.write.specs.Section.{contentsHeader}
 use Rattle.write.proofs.SectionParts.{own, Packed, packed-parts, within, told}
 use Rattle.write.proofs.section.store_packed.Statement.{statement}
 use Rattle.write.proofs.section.store_packed.Tie as tie
@@ -88,9 +90,12 @@ returns c =
     let header = frame .before .before .before .before in
     let stored = header .before .before .before .before in
     let b = stored .before .before in
+    let row = b .before .before .load .result in
+    let fields : header .write-contents-header .last .0 ≡ sets (stored .write-bytes .last .0) (p b .at + 8) (contentsHeader (row .a) 1 (length (b .bytes-of .result .now)) (row .e) (row .d)) =
+    header .write-contents-header .ensures in
     told (payload b) (edit b) (rows b) (p b) (s b .pre .1) (parts b) (ends b) (s b .args .output .now) (header .write-contents-header .last .0)
     (sym (add-zero _))
-    (cc (header .write-contents-header .ensures, stored .write-bytes .ensures, bytes b, b .before .before .load .ensures))
+    (cc (fields, stored .write-bytes .ensures, bytes b, b .before .before .load .ensures))
     (frame .write-frame .ensures)
 
 pub store-packed-spec : {M : Type 1} → statement M

@@ -7,15 +7,17 @@ use mathlib.Core.Path.{_≡_, refl}
 use native.Mathlib.Omega.{arith}
 use borrow.Author.Needs.{needs}
 use lib.ListN.{length, drop}
+use lib.Seq.{sets}
 use Rattle.wire.specs.Padding.{aligned}
-use Rattle.layout.specs.Rows.{rowsOf}
-use Rattle.layout.specs.declared.row.Row.{Row}
-use Rattle.layout.proofs.Rows.{length-rowsOf}
+use Rattle.table.specs.Rows.{rowsOf}
+use Rattle.table.specs.declared.row.Row.{Row}
+use Rattle.table.specs.declared.tag.Tag.the-variants.{Content}
+use Rattle.table.proofs.Rows.{length-rowsOf}
 use Rattle.format.specs.Encoding.{limit}
 use Rattle.write.specs.declared.position.Position.{Position}
 use Rattle.write.specs.Run.{runBytes}
-use Rattle.write.specs.Section.{entryCount}
-use Rattle.write.proofs.SectionParts.{Plain, plain-parts, run-many, within, told}
+use Rattle.write.specs.Section.{entryCount, contentsHeader}
+use Rattle.write.proofs.SectionParts.{Plain, plain-parts, contents-many, within, told}
 use Rattle.write.proofs.section.store_plain.Statement.{statement}
 use Rattle.write.proofs.section.store_plain.Tie as tie
 
@@ -40,7 +42,7 @@ module _ (c : tie.After-write-run-arg) where
   rest = drop (p .index + 1) rows
 
   abbrev bytes : List ℕ
-  bytes = runBytes payload edit 5 rest
+  bytes = runBytes payload edit Content rest
 
   parts : Plain payload edit rows (p .index)
   parts = plain-parts payload edit rows (p .index) (s .pre .1)
@@ -75,7 +77,7 @@ sub-write-contents-header c = search needs
 cast-write-contents-header : tie.Need-cast-write-contents-header
 cast-write-contents-header c =
     let w = c .before .before .before .before in
-    omega (arith, small w .0, run-many (payload w) (edit w) 5 (omega arith) (rest w))
+    omega (arith, small w .0, contents-many (payload w) (edit w) (rest w))
 
 write-contents-header-requires : tie.Need-write-contents-header-requires
 write-contents-header-requires c κs = omega (arith, small (c .before .before .before .before) .0)
@@ -94,11 +96,15 @@ returns c =
     let header = frame .before .before .before .before in
     let run = header .before .before .before .before in
     let w = run .before in
-    let count : run .write-run .result .index - (p w .index + 1) ≡ entryCount 5 (rest w) = omega arith in
+    let count : run .write-run .result .index - (p w .index + 1) ≡ entryCount Content (rest w) = omega arith in
     let size : run .write-run .result .at - (p w .at + 28) ≡ length (bytes w) = omega arith in
+    let row = w .before .before .load .result in
+    let stored : ℕ = run .write-run .result .at - (p w .at + 28) in
+    let fields : header .write-contents-header .last .0 ≡ sets (run .write-run .last .1 .1 .1 .1 .1 .0) (p w .at + 8) (contentsHeader (row .a) 0 stored stored (run .write-run .result .index - (p w .index + 1))) =
+    header .write-contents-header .ensures in
     told (payload w) (edit w) (rows w) (p w) (s w .pre .1) (parts w) (run .write-run .ensures .1 .0) (s w .args .output .now) (header .write-contents-header .last .0)
     (run .write-run .ensures .0)
-    (cc (header .write-contents-header .ensures, run .write-run .ensures .1 .1, w .before .before .load .ensures))
+    (cc (fields, run .write-run .ensures .1 .1, w .before .before .load .ensures))
     (frame .write-frame .ensures)
 
 pub store-plain-spec : {M : Type 1} → statement M

@@ -8,9 +8,10 @@ use native.Mathlib.Omega.{arith}
 use borrow.Author.Needs.{needs}
 use lib.ListN.{length}
 use Rattle.wire.specs.Padding.{aligned}
-use Rattle.layout.specs.Rows.{rowsOf}
-use Rattle.layout.specs.declared.row.Row.{Row}
-use Rattle.layout.proofs.Rows.{length-rowsOf}
+use Rattle.layout.specs.Kinds.{kindNumber}
+use Rattle.table.specs.Rows.{rowsOf}
+use Rattle.table.specs.declared.row.Row.{Row}
+use Rattle.table.proofs.Rows.{length-rowsOf}
 use Rattle.format.specs.Encoding.{limit}
 use Rattle.write.specs.declared.position.Position.{Position}
 use Rattle.write.proofs.SectionParts.{own, Unknown, unknown-parts, within, told}
@@ -67,10 +68,10 @@ write-bytes-requires c κs = search needs
 add-write-frame : tie.Need-add-write-frame
 add-write-frame c = search needs
 
-cast-write-frame : tie.Need-cast-write-frame
-cast-write-frame c =
+cast-t19 : tie.Need-cast-t19
+cast-t19 c =
     let b = c .before .before .before .before .before .before in
-    omega (arith, s b .pre .2, parts b .kinded, ap (λ (r : Row). r .a) (b .before .before .load .ensures))
+    omega (arith, s b .pre .2, ap kindNumber (parts b .kinded), ap (λ (r : Row). r .a) (b .before .before .load .ensures))
 
 write-frame-requires : tie.Need-write-frame-requires
 write-frame-requires c κs = (omega arith, small (c .before .before .before .before .before .before) .1)
@@ -98,7 +99,7 @@ store-unknown-spec =
     add-stored
     write-bytes-requires
     add-write-frame
-    cast-write-frame
+    cast-t19
     write-frame-requires
     same-length
     returns)

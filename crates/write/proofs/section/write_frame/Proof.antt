@@ -5,6 +5,7 @@ use mathlib.Core.Path.{refl}
 use native.Mathlib.Omega.{arith}
 use borrow.Author.Needs.{needs}
 use Rattle.wire.specs.Padding.{aligned}
+use Rattle.layout.specs.Kinds.{kindNumber}
 use Rattle.format.specs.Encoding.{u16}
 use Rattle.wire.proofs.NumberLaws.{fields-stored}
 use Rattle.write.proofs.section.write_frame.Statement.{statement}
@@ -36,6 +37,9 @@ write-u16-requires c κs = search needs
 add-write-u16-2 : tie.Need-add-write-u16-2
 add-write-u16-2 c = search needs
 
+to-u16-requires : tie.Need-to-u16-requires
+to-u16-requires c κs = search needs
+
 write-u16-requires-2 : tie.Need-write-u16-requires-2
 write-u16-requires-2 c κs = search needs
 
@@ -52,9 +56,9 @@ same-length c = search needs
 returns : tie.Need-returns
 unfolding aligned
 returns c =
-    let a = c .before .before .before .before .before .before .before .before .before .before .before .before .before .before .before .before .before .before .args in
+    let a = c .before .before .before .before .before .before .before .before .before .before .before .before .before .before .before .before .before .before .before .args in
     let size : ℕ = aligned (a .end - a .start) in
-    (omega arith, cc (fields-stored size 2 0 (u16 (a .kind)) (a .output .now) (a .start) (a .start + 4) (a .start + 6) refl (omega arith)))
+    (omega arith, cc (fields-stored size 2 0 (u16 (kindNumber (a .kind))) (a .output .now) (a .start) (a .start + 4) (a .start + 6) refl (omega arith)))
 
 pub write-frame-spec : {M : Type 1} → statement M
 write-frame-spec =
@@ -68,6 +72,7 @@ write-frame-spec =
     add-write-u16
     write-u16-requires
     add-write-u16-2
+    to-u16-requires
     write-u16-requires-2
     write-zeros-requires
     add-result

@@ -2,7 +2,7 @@
 -- Assumes nothing.
 use borrow.Author.Needs.{needs}
 use denote.Ref.{now}
-use Rattle.layout.specs.Rows.{rowsOf}
+use Rattle.table.specs.Rows.{rowsOf}
 use Rattle.format.specs.Resolve.{sectionsOf}
 use Rattle.write.proofs.Stored.{payload-stored}
 use Rattle.write.proofs.source_info.write_srci.Statement.{statement}
