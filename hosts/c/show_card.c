@@ -1,6 +1,6 @@
-/* Prints the card of the payload in a file.
+/* Prints the card of the payload in a file, or why it is refused.
  *
- *   cc -Ihosts/c hosts/c/show_card.c build/lib/libsrci.a -o show_card && ./show_card FILE
+ *   cc -Ibuild/include hosts/c/show_card.c build/lib/libsrci.a -o show_card && ./show_card FILE
  */
 #include <stdio.h>
 #include <stdlib.h>
@@ -24,12 +24,12 @@ int main(int count, char **words)
     }
     fclose(file);
 
-    /* An output of no bytes is too short for every card, and the refusal tells how long the card is. */
-    uint8_t none = 0;
+    /* No bytes are too few for every card, and the refusal tells how long the card is. */
     uint32_t needed = 0;
-    uint32_t number = srci_card(payload, length, &none, 0, &needed);
+    uint32_t number = srci_card(payload, length, NULL, 0, &needed);
     if (number != SRCI_NO_ROOM) {
-        fprintf(stderr, "refused %u\n", (unsigned)number);
+        fprintf(stderr, "refused %lu, %s: %s\n", (unsigned long)number, srci_refusal_name(number),
+                srci_refusal_meaning(number));
         return 1;
     }
     uint8_t *card = malloc(needed);
@@ -38,11 +38,7 @@ int main(int count, char **words)
         return 3;
     }
     uint32_t stored = 0;
-    number = srci_card(payload, length, card, needed, &stored);
-    if (number != 0) {
-        fprintf(stderr, "refused %u\n", (unsigned)number);
-        return 1;
-    }
+    srci_card(payload, length, card, needed, &stored);
     if (fwrite(card, 1, stored, stdout) != stored || fflush(stdout) != 0) {
         perror("standard output");
         return 3;

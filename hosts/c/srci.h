@@ -3,14 +3,15 @@
  * Each function is proved, in Rattle, to do what its contract says (crates/srci/src/lib.rt): it ends on every input,
  * reads and stores inside the lent buffers alone, and takes no memory. What is left to the caller is what a prototype
  * cannot say:
- * - a pointer is valid for its length, which is in elements, is aligned for them, and is not NULL, even for length 0;
+ * - a pointer is valid for its length, which is in elements, and aligned for them; with length 0 it may be NULL;
+ * - second is valid for one number, and not NULL;
  * - a buffer that a call may change does not overlap any other that is lent to the same call;
  * - no other thread changes a lent buffer during the call.
  *
  * Every function returns 0 for an accepted call, and stores in *second how many rows or bytes it stored; what follows
  * these keeps its values. Otherwise it returns the number of a refusal (enum srci_refusal), stores the refusal's second
- * number in *second, and changes nothing else. So a call with a length of 0 tells what length is needed: the rows by
- * SRCI_NO_ROWS, the bytes by SRCI_NO_ROOM.
+ * number in *second, and changes nothing else. So a call with NULL and 0 for the rows or the output tells what is
+ * needed: the rows by SRCI_NO_ROWS, the bytes by SRCI_NO_ROOM.
  */
 #ifndef SRCI_H
 #define SRCI_H
@@ -22,36 +23,120 @@
 extern "C" {
 #endif
 
+/* [tables: version] */
+#define SRCI_VERSION "0.2.0"
+#define SRCI_VERSION_MAJOR 0
+#define SRCI_VERSION_MINOR 2
+#define SRCI_VERSION_PATCH 0
+/* [tables: end] */
+
 /* Bytes of the longest payload. */
 #define SRCI_LIMIT 26214400
 
 /* Numbers of a row. A payload of n bytes has at most (n - 8) / 2 rows. */
 #define SRCI_ROW_WIDTH 7
 
-/* Why a call is refused. The second number is 0 but for SRCI_NO_ROWS and SRCI_NO_ROOM. */
+/* Why a call is refused. The second number is 0 where nothing else is said. [tables: refusals] */
 enum srci_refusal {
-    SRCI_OVERSIZE = 1,     /* the payload has more than SRCI_LIMIT bytes */
-    SRCI_RAGGED = 2,       /* the payload has under 8 bytes, or a length that is no multiple of 4 */
-    SRCI_MAIN_HEADER = 3,  /* the main header's length is wrong, or its flags are set */
-    SRCI_FRAME = 4,        /* a section's size has no 4 bytes, is under 8, no multiple of 4, or past the end */
-    SRCI_FLAG = 5,         /* flags of a section, a body or an entry are set */
-    SRCI_SHORT = 6,        /* a body header or an entry header does not fit */
-    SRCI_BODY_SIZE = 7,    /* a section's size is not what its parts make it */
-    SRCI_PADDING = 8,      /* a padding byte is not 0 */
-    SRCI_ENTRY_SIZE = 9,   /* an entry's text has size 0, its aligned size is wrong, or it is past its bytes */
-    SRCI_OPEN_TEXT = 10,   /* a text's terminator is missing */
-    SRCI_NOT_UTF8 = 11,    /* a text is not UTF-8 (RFC 3629) */
-    SRCI_INNER_NUL = 12,   /* a text has a NUL inside */
-    SRCI_LEFTOVER = 13,    /* bytes remain after the count */
-    SRCI_COMPRESSION = 14, /* compression is neither 0 nor 1 */
-    SRCI_UNEQUAL = 15,     /* of plain contents, uncompressed and stored bytes differ */
-    SRCI_NO_ROWS = 16,     /* the row table is too short; the second number is the rows needed */
-    SRCI_BAD_ROW = 17,     /* a row breaks a rule of rows, or the table is no multiple of SRCI_ROW_WIDTH */
-    SRCI_WONT_FIT = 18,    /* sections, bytes of names or the payload pass a limit */
-    SRCI_NO_ROOM = 19      /* the output is too short; the second number is the bytes needed */
+    /* The payload has more than 26,214,400 bytes. */
+    SRCI_OVERSIZE = 1,
+    /* The payload has fewer than 8 bytes, or a length that is no multiple of 4. */
+    SRCI_RAGGED = 2,
+    /* The main header tells another length than the payload's, or its flags are set. */
+    SRCI_MAIN_HEADER = 3,
+    /* A section's size is missing, under 8, no multiple of 4, or past the end of the payload. */
+    SRCI_FRAME = 4,
+    /* Flags of a section, of its body or of an entry are set. */
+    SRCI_FLAG = 5,
+    /* The header of a section's body or of an entry does not fit. */
+    SRCI_SHORT = 6,
+    /* A section's size is not what its headers and stored bytes make it. */
+    SRCI_BODY_SIZE = 7,
+    /* A padding byte is not zero. */
+    SRCI_PADDING = 8,
+    /* An entry's text has size 0, its aligned size is wrong, or it runs past its section's bytes. */
+    SRCI_ENTRY_SIZE = 9,
+    /* The NUL that ends a text is missing. */
+    SRCI_OPEN_TEXT = 10,
+    /* A text is not UTF-8 as RFC 3629 defines it. */
+    SRCI_NOT_UTF8 = 11,
+    /* A text has a NUL inside. */
+    SRCI_INNER_NUL = 12,
+    /* Bytes are left after the last section or entry that is counted. */
+    SRCI_LEFTOVER = 13,
+    /* The compression of contents is neither 0 (plain) nor 1 (packed). */
+    SRCI_COMPRESSION = 14,
+    /* Plain contents tell an uncompressed size that is not that of their stored bytes. */
+    SRCI_UNEQUAL = 15,
+    /* The table of rows is too short. The second number: rows needed. */
+    SRCI_NO_ROWS = 16,
+    /* A row breaks a rule of rows, or the table has a part of a row. */
+    SRCI_BAD_ROW = 17,
+    /* There would be over 65,535 sections, 65,535 bytes of names in one, or 26,214,400 bytes. */
+    SRCI_WONT_FIT = 18,
+    /* The output is too short. The second number: bytes needed. */
+    SRCI_NO_ROOM = 19
 };
+/* [tables: end] */
 
-/* What a row is: its number at SRCI_TAG. Rows 5, 6 and 7 follow their section 0, 2 or 3. */
+/* What a refusal is called, and a sentence that says what it means; NULL for a number that is none.
+ * [tables: names of refusals] */
+static inline const char *srci_refusal_name(uint32_t number)
+{
+    static const char *const texts[] = {
+        "oversize",
+        "ragged",
+        "main header",
+        "frame",
+        "flag",
+        "short",
+        "body size",
+        "padding",
+        "entry size",
+        "open text",
+        "not UTF-8",
+        "inner NUL",
+        "leftover",
+        "compression",
+        "unequal",
+        "no rows",
+        "bad row",
+        "won't fit",
+        "no room"
+    };
+    return number - 1 < sizeof texts / sizeof *texts ? texts[number - 1] : NULL;
+}
+/* [tables: end] */
+
+/* [tables: meanings of refusals] */
+static inline const char *srci_refusal_meaning(uint32_t number)
+{
+    static const char *const texts[] = {
+        "The payload has more than 26,214,400 bytes.",
+        "The payload has fewer than 8 bytes, or a length that is no multiple of 4.",
+        "The main header tells another length than the payload's, or its flags are set.",
+        "A section's size is missing, under 8, no multiple of 4, or past the end of the payload.",
+        "Flags of a section, of its body or of an entry are set.",
+        "The header of a section's body or of an entry does not fit.",
+        "A section's size is not what its headers and stored bytes make it.",
+        "A padding byte is not zero.",
+        "An entry's text has size 0, its aligned size is wrong, or it runs past its section's bytes.",
+        "The NUL that ends a text is missing.",
+        "A text is not UTF-8 as RFC 3629 defines it.",
+        "A text has a NUL inside.",
+        "Bytes are left after the last section or entry that is counted.",
+        "The compression of contents is neither 0 (plain) nor 1 (packed).",
+        "Plain contents tell an uncompressed size that is not that of their stored bytes.",
+        "The table of rows is too short.",
+        "A row breaks a rule of rows, or the table has a part of a row.",
+        "There would be over 65,535 sections, 65,535 bytes of names in one, or 26,214,400 bytes.",
+        "The output is too short."
+    };
+    return number - 1 < sizeof texts / sizeof *texts ? texts[number - 1] : NULL;
+}
+/* [tables: end] */
+
+/* What a row is: its number at SRCI_TAG. Contents, names and pairs follow their section. [tables: tags] */
 enum srci_tag {
     SRCI_TAG_PLAIN_CONTENTS = 0,
     SRCI_TAG_PACKED_CONTENTS = 1,
@@ -62,6 +147,7 @@ enum srci_tag {
     SRCI_TAG_NAME = 6,
     SRCI_TAG_PAIR = 7
 };
+/* [tables: end] */
 
 /* Where a row's texts and bytes are: its number at SRCI_SIDE. */
 enum srci_side {
@@ -69,8 +155,8 @@ enum srci_side {
     SRCI_SIDE_EDIT = 1
 };
 
-/* Where each number of a row stands in its seven, by the row's tag; those without a name are 0. Starts and lengths are
- * in bytes of the row's side, and a text's length leaves its terminator out. */
+/* Where each number of a row stands in it, by the row's tag; those without a name are 0. Starts and lengths are in
+ * bytes of the row's side, and a text's length leaves its terminator out. [tables: numbers] */
 enum srci_number {
     SRCI_TAG = 0,
     SRCI_SIDE = 1,
@@ -81,7 +167,7 @@ enum srci_number {
     SRCI_PACKED_START = 3,
     SRCI_PACKED_LENGTH = 4,
     SRCI_PACKED_COUNT = 5,
-    SRCI_PACKED_UNCOMPRESSED = 6, /* bytes */
+    SRCI_PACKED_UNCOMPRESSED = 6,
 
     SRCI_UNKNOWN_KIND = 2,
     SRCI_UNKNOWN_START = 3,
@@ -99,6 +185,7 @@ enum srci_number {
     SRCI_PAIR_VALUE_START = 4,
     SRCI_PAIR_VALUE_LENGTH = 5
 };
+/* [tables: end] */
 
 /* Reads a payload into rows. rows_length is in numbers, not in rows; numbers past the last whole row are not
  * used. Refusals: 1 to 15, then 16. */
@@ -121,7 +208,8 @@ uint32_t srci_list(const uint8_t *payload, size_t payload_length, uint8_t *outpu
 uint32_t srci_public_copy(const uint8_t *payload, size_t payload_length, uint8_t *output, size_t output_length,
                           uint32_t *second);
 
-/* Makes the card of a payload: the listing of its public copy. Refusals: 1 to 15, then 19. */
+/* Makes the card of a payload: the listing of its public copy. It has a line for each known section, of which a payload
+ * may have 65,535, and so some 4 MB. Refusals: 1 to 15, then 19. */
 uint32_t srci_card(const uint8_t *payload, size_t payload_length, uint8_t *output, size_t output_length,
                    uint32_t *second);
 

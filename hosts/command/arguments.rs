@@ -1,224 +1,218 @@
-//! What the command is asked to do, and its help.
+//! What the command is asked to do.
+use crate::commands::{Command, COMMANDS, GENERAL, STATUSES};
 use crate::failure::Failure;
-use crate::jobs;
-use std::ffi::OsString;
+use crate::manual;
+use std::ffi::{OsStr, OsString};
 use std::fmt::Write;
-
-type Run = fn(&Call) -> Result<(), Failure>;
-
-struct Command {
-    name: &'static str,
-    operands: &'static [&'static str],
-    option: Option<&'static str>,
-    run: Run,
-    does: &'static str,
-    /// Further lines of its own help.
-    more: &'static str,
-}
-
-const COMMANDS: [Command; 7] = [
-    Command {
-        name: "card",
-        operands: &["FILE"],
-        option: None,
-        run: jobs::card,
-        does: "print the card: the listing of the public copy",
-        more: "\
-The card has a line for each known section, with how many files or pairs it counts. It is made from
-the public facts alone, so that it tells no size of a source and no unknown section.
-",
-    },
-    Command {
-        name: "facts",
-        operands: &["FILE"],
-        option: Some("--json"),
-        run: jobs::facts,
-        does: "print all that a card may show: sections, counts, names, argument pairs",
-        more: "\
-The facts are taken from the public copy. After a header line, a line has five fields, parted by
-tabs: the section's place from 0; the fact, which is 'plain contents', 'packed contents', 'names'
-or 'arguments' for a section, and 'name' or 'pair' for what is in it; the section's count; the name
-of a file or of an argument; the argument's value. A field that does not apply is empty.
-
-With --json an array of the sections, each {\"section\": .., \"count\": ..}. A section of names has an
-array \"names\" of texts besides, and one of arguments an array \"pairs\" of {\"name\": .., \"value\": ..}.
-",
-    },
-    Command {
-        name: "list",
-        operands: &["FILE"],
-        option: None,
-        run: jobs::list,
-        does: "print the listing, which tells packed sizes and unknown sections too",
-        more: "",
-    },
-    Command {
-        name: "rows",
-        operands: &["FILE"],
-        option: Some("--json"),
-        run: jobs::rows,
-        does: "print the rows, with their texts",
-        more: "\
-After a header line, a line has ten fields, parted by tabs: the row's tag and what it is called, its
-side, its numbers A to E, its text, and a pair's value. By what the row is called, the numbers are:
-  plain contents   A header field
-  packed contents  A header field, B start, C length, D count, E uncompressed bytes
-  unknown          A kind, B start, C length
-  content          A start, B length
-  name             A start, B length, C content size
-  pair             A, B start and length of its name, C, D of its value
-
-With --json an array of the rows, whose fields have the header line's names in lower case; a row
-without a text, or without a value, has no such field.
-",
-    },
-    Command {
-        name: "public-copy",
-        operands: &["FILE", "OUT"],
-        option: Some("--force"),
-        run: jobs::public_copy,
-        does: "write the public copy",
-        more: OUT,
-    },
-    Command {
-        name: "rename",
-        operands: &["FILE", "OLD", "NEW", "OUT"],
-        option: Some("--force"),
-        run: jobs::rename,
-        does: "rename the file OLD to NEW in every names section; all else stays",
-        more: OUT,
-    },
-    Command {
-        name: "check",
-        operands: &["FILE"],
-        option: None,
-        run: jobs::check,
-        does: "say 'accepted', or which refusal the payload gets and what it means",
-        more: "",
-    },
-];
-
-const OUT: &str = "\
-OUT is written under another name beside its place and then put there whole. A file that is there
-already is replaced only with --force; without it, the exit status is 3.
-";
-
-const TEXTS: &str = "\
-In a field a tab, a new line, a carriage return and a backslash are \\t, \\n, \\r and \\\\; other
-characters that do not show, or that change how others show, are \\u{HEX}. JSON escapes the same
-characters in its own way.
-";
-
-const GENERAL: &str = "\
-FILE has at most 26,214,400 bytes; - is standard input, and as OUT standard output. Words after --
-are no options.
-
-Exit status: 0 done; 1 refused, with the refusal's number, name and meaning on standard error, or
-no file of that name; 2 wrong usage; 3 a file cannot be read or written.
-";
 
 /// A command with its operands.
 pub struct Call {
-    pub run: Run,
+    pub command: &'static Command,
     pub operands: Vec<OsString>,
-    /// Whether the command's one option was given.
-    pub option: bool,
+    options: Vec<&'static str>,
 }
 
 pub enum Asked {
     Sample,
-    Help(String),
+    /// To print this.
+    Text(String),
     Command(Call),
 }
 
+/// What may stand in a command's place, besides `help`.
+pub const GENERAL_OPTIONS: [(&str, &str); 5] = [
+    (
+        "--help",
+        "print the commands; after a command, its own help",
+    ),
+    ("--version", "print the version"),
+    ("--sample", "print the card of a sample payload"),
+    ("--man-page", "print the manual's page, for man"),
+    (
+        "--bash-completion",
+        "print what bash completes these words by",
+    ),
+];
+
+const USAGE: &str = "usage: srci COMMAND ..; 'srci --help' tells the commands";
+
 pub fn parse(words: &[OsString]) -> Result<Asked, Failure> {
-    let Some((name, words)) = words.split_first() else {
-        return Ok(Asked::Sample);
+    let Some((first, words)) = words.split_first() else {
+        return Err(Failure::Usage("a command is missing".to_string(), help()));
     };
-    if is_help(name) {
-        return Ok(Asked::Help(help()));
+    let general = match first.to_str() {
+        Some("--help" | "-h" | "help") => return helped(words),
+        Some("--version" | "-V") => Asked::Text(format!("srci {}\n", srci::VERSION)),
+        Some("--sample") => Asked::Sample,
+        Some("--man-page") => Asked::Text(manual::page()),
+        Some("--bash-completion") => Asked::Text(manual::completion()),
+        _ => return parse_command(command(first)?, words),
+    };
+    match words {
+        [] => Ok(general),
+        _ => Err(wrong(format!(
+            "{} takes no operands",
+            first.to_string_lossy()
+        ))),
     }
-    let Some(command) = COMMANDS.iter().find(|command| name == command.name) else {
-        let usage = "usage: srci COMMAND ..; 'srci --help' tells the commands".to_string();
-        return Err(Failure::Usage(
-            format!("there is no command {name:?}"),
-            usage,
-        ));
-    };
+}
+
+/// `help`, and `help COMMAND`.
+fn helped(words: &[OsString]) -> Result<Asked, Failure> {
+    match words {
+        [] => Ok(Asked::Text(help())),
+        [name] if name == "help" || GENERAL_OPTIONS.iter().any(|(option, _)| name == option) => {
+            Ok(Asked::Text(help()))
+        }
+        [name] => Ok(Asked::Text(command(name)?.help())),
+        _ => Err(wrong("help takes one command".to_string())),
+    }
+}
+
+fn command(name: &OsStr) -> Result<&'static Command, Failure> {
+    let found = COMMANDS.iter().find(|command| name == command.name);
+    found.ok_or_else(|| {
+        let others = GENERAL_OPTIONS.iter().map(|(option, _)| *option);
+        let words = COMMANDS.iter().map(|command| command.name).chain(["help"]);
+        let hint = meant(name, words.chain(others));
+        wrong(format!("there is no command {name:?}{hint}"))
+    })
+}
+
+fn wrong(what: String) -> Failure {
+    Failure::Usage(what, format!("{USAGE}\n"))
+}
+
+fn parse_command(command: &'static Command, words: &[OsString]) -> Result<Asked, Failure> {
     let mut call = Call {
-        run: command.run,
+        command,
         operands: Vec::new(),
-        option: false,
+        options: Vec::new(),
     };
     let mut words = words.iter();
     while let Some(word) = words.next() {
         if word == "--" {
             call.operands.extend(words.by_ref().cloned());
-        } else if is_help(word) {
-            return Ok(Asked::Help(command.help()));
-        } else if command.option.is_some_and(|option| word == option) {
-            call.option = true;
+        } else if word == "--help" || word == "-h" {
+            return Ok(Asked::Text(command.help()));
         } else if word != "-" && word.as_encoded_bytes().starts_with(b"-") {
-            return Err(command.wrong(format!("{} has no option {word:?}", command.name)));
+            call.options.push(command.option(word)?);
         } else {
             call.operands.push(word.clone());
         }
     }
     let (given, needed) = (call.operands.len(), command.operands.len());
-    if given != needed {
-        let name = command.name;
-        return Err(command.wrong(format!("{name} takes {needed} operand(s), not {given}")));
+    if given < needed || given > needed && !command.takes_several() {
+        let least = if command.takes_several() {
+            "at least "
+        } else {
+            ""
+        };
+        let what = format!(
+            "{} takes {least}{needed} operand(s), not {given}",
+            command.name
+        );
+        return Err(command.wrong(what));
     }
     Ok(Asked::Command(call))
 }
 
-fn is_help(word: &OsString) -> bool {
-    word == "--help" || word == "-h"
+impl Call {
+    pub fn has(&self, option: (&str, &str)) -> bool {
+        self.options.contains(&option.0)
+    }
 }
 
 impl Command {
-    fn usage(&self) -> String {
-        let mut usage = format!("srci {}", self.name);
-        for operand in self.operands {
-            usage = format!("{usage} {operand}");
-        }
-        match self.option {
-            Some(option) => format!("{usage} [{option}]"),
-            None => usage,
-        }
+    fn takes_several(&self) -> bool {
+        self.operands
+            .last()
+            .is_some_and(|operand| operand.ends_with(".."))
     }
 
-    fn wrong(&self, what: String) -> Failure {
-        Failure::Usage(what, format!("usage: {}", self.usage()))
+    fn option(&self, word: &OsStr) -> Result<&'static str, Failure> {
+        let mut options = self.options.iter().map(|(option, _)| *option);
+        options.find(|option| word == *option).ok_or_else(|| {
+            let hint = meant(word, self.options.iter().map(|(option, _)| *option));
+            self.wrong(format!("{} has no option {word:?}{hint}", self.name))
+        })
+    }
+
+    pub fn wrong(&self, what: String) -> Failure {
+        Failure::Usage(what, format!("usage: {}\n", self.usage()))
     }
 
     fn help(&self) -> String {
-        let texts = if self.option == Some("--json") {
-            TEXTS
-        } else {
-            ""
-        };
-        let parts = [self.more, texts, GENERAL]
-            .into_iter()
-            .filter(|part| !part.is_empty());
         let mut help = format!("usage: {}\n\nDoes: {}.\n", self.usage(), self.does);
-        for part in parts {
-            help = format!("{help}\n{part}");
+        if !self.options.is_empty() {
+            let _ = write!(help, "\n{}", in_columns(self.options, 10));
         }
-        help
+        let parts = [self.more()]
+            .into_iter()
+            .chain(self.shared.iter().map(|part| part.text.to_string()));
+        for part in parts.filter(|part| !part.is_empty()) {
+            let _ = write!(help, "\n{part}");
+        }
+        format!("{help}\n{}", general())
     }
 }
 
 fn help() -> String {
-    let mut help = "\
-SRCI payloads of compiled shaders: cards, listings, rows, public copies.
+    let commands = COMMANDS.map(|command| {
+        let words = format!("{} {}", command.name, command.operands.join(" "));
+        format!("  {words:26}{}\n", command.does)
+    });
+    format!(
+        "\
+SRCI payloads of compiled shaders: cards, listings, rows, public copies
+usage: srci COMMAND ..; 'srci help COMMAND' tells more of each of these
 
-usage: srci COMMAND .., where COMMAND is one of these; 'srci COMMAND --help' tells more
+{}
+{}
+{}",
+        commands.concat(),
+        in_columns(&GENERAL_OPTIONS, 26),
+        general()
+    )
+}
 
-"
-    .to_string();
-    for command in &COMMANDS {
-        let _ = writeln!(help, "  {}\n      {}", command.usage(), command.does);
+fn general() -> String {
+    format!("{GENERAL}\n\nExit status:\n{}", in_columns(&STATUSES, 3))
+}
+
+/// Words, each with what it means.
+fn in_columns(words: &[(&str, &str)], width: usize) -> String {
+    words
+        .iter()
+        .map(|(word, meaning)| format!("  {word:width$}{meaning}\n"))
+        .collect()
+}
+
+/// The word that was meant, where one is like the word that was given.
+fn meant<'a>(given: &OsStr, words: impl Iterator<Item = &'a str>) -> String {
+    let given = given.to_string_lossy();
+    let near = words.map(|word| (distance(&given, word), word)).min();
+    match near {
+        Some((steps, word)) if steps <= 2 && steps < word.trim_start_matches('-').len() / 2 + 1 => {
+            format!("; did you mean '{word}'?")
+        }
+        _ => String::new(),
     }
-    format!("{help}\nWithout a command: the card of a sample payload.\n\n{GENERAL}")
+}
+
+/// How many letters must be put in, left out or exchanged to make one word of another.
+fn distance(one: &str, other: &str) -> usize {
+    let other: Vec<char> = other.chars().collect();
+    let mut steps: Vec<usize> = (0..=other.len()).collect();
+    // a word of the command line can be long, and one like ours is not
+    for (row, letter) in one.chars().take(40).enumerate() {
+        let mut before = steps[0];
+        steps[0] = row + 1;
+        for (column, with) in other.iter().enumerate() {
+            let changed = before + usize::from(letter != *with);
+            before = steps[column + 1];
+            steps[column + 1] = changed.min(before + 1).min(steps[column] + 1);
+        }
+    }
+    steps[other.len()]
 }

@@ -1,62 +1,73 @@
-//! All that a card may show, printed from the rows of a public copy.
+//! All that a card may show, printed.
+use crate::table::Table;
 use crate::text::{Field, Json};
-use srci::Row;
+use srci::{Facts, Row};
+use std::fmt::Display;
 use std::io::{Result, Write};
 
-/// A section's row with those of its entries.
-fn sections(rows: &[Row]) -> impl Iterator<Item = (&Row, &[Row])> {
-    rows.chunk_by(|_, next| next.tag >= Row::CONTENT)
-        .filter_map(<[Row]>::split_first)
-}
+pub const FIELDS: [&str; 5] = ["section", "fact", "count", "name", "value"];
 
-/// What a section counts: of packed contents as it says itself.
-fn count(section: &Row, entries: &[Row]) -> usize {
-    match section.tag {
-        Row::PACKED_CONTENTS => section.d as usize,
-        _ => entries.len(),
-    }
-}
-
-pub fn table(copy: &[u8], rows: &[Row], out: &mut dyn Write) -> Result<()> {
-    writeln!(out, "section\tfact\tcount\tname\tvalue")?;
-    for (place, (section, entries)) in sections(rows).enumerate() {
-        writeln!(
-            out,
-            "{place}\t{}\t{}\t\t",
-            section.kind(),
-            count(section, entries)
-        )?;
-        for entry in entries.iter().filter(|entry| entry.tag != Row::CONTENT) {
-            let [name, value] = [entry.text(copy, b""), entry.value(copy, b"")].map(Field);
-            writeln!(out, "{place}\t{}\t\t{name}\t{value}", entry.kind())?;
+/// Each line begins with these fields.
+pub fn table(facts: &Facts, first: &[&dyn Display], table: &mut Table) -> Result<()> {
+    for (place, section) in facts.sections().enumerate() {
+        table.line(first, &[&place, &section.kind(), &section.count, &"", &""])?;
+        for name in section.names {
+            table.line(
+                first,
+                &[
+                    &place,
+                    &srci::ROWS[Row::NAME as usize].0,
+                    &"",
+                    &Field(name),
+                    &"",
+                ],
+            )?;
+        }
+        for (name, value) in section.pairs {
+            let kind = srci::ROWS[Row::PAIR as usize].0;
+            table.line(first, &[&place, &kind, &"", &Field(name), &Field(value)])?;
         }
     }
     Ok(())
 }
 
-pub fn json(copy: &[u8], rows: &[Row], out: &mut dyn Write) -> Result<()> {
+pub fn json(facts: &Facts, out: &mut dyn Write) -> Result<()> {
     write!(out, "[")?;
-    for (place, (section, entries)) in sections(rows).enumerate() {
+    for (place, section) in facts.sections().enumerate() {
         let before = if place == 0 { "\n" } else { ",\n" };
-        let (kind, count) = (section.kind(), count(section, entries));
+        let (kind, count) = (section.kind(), section.count);
         write!(out, "{before}{{\"section\":\"{kind}\",\"count\":{count}")?;
         match section.tag {
-            Row::NAMES => write!(out, ",\"names\":[")?,
-            Row::ARGUMENTS => write!(out, ",\"pairs\":[")?,
-            _ => {
-                write!(out, "}}")?;
-                continue;
+            Row::NAMES => {
+                write!(out, ",\"names\":")?;
+                array(out, section.names, |out, name| {
+                    write!(out, "{}", Json(name))
+                })?;
             }
-        }
-        for (place, entry) in entries.iter().enumerate() {
-            let before = if place == 0 { "" } else { "," };
-            let name = Json(entry.text(copy, b"").unwrap_or_default());
-            match entry.value(copy, b"").map(Json) {
-                Some(value) => write!(out, "{before}{{\"name\":{name},\"value\":{value}}}")?,
-                None => write!(out, "{before}{name}")?,
+            Row::ARGUMENTS => {
+                write!(out, ",\"pairs\":")?;
+                array(out, section.pairs, |out, (name, value)| {
+                    write!(out, "{{\"name\":{},\"value\":{}}}", Json(name), Json(value))
+                })?;
             }
+            _ => {}
         }
-        write!(out, "]}}")?;
+        write!(out, "}}")?;
     }
-    writeln!(out, "\n]")
+    write!(out, "\n]")
+}
+
+fn array<T>(
+    out: &mut dyn Write,
+    all: impl Iterator<Item = T>,
+    print: impl Fn(&mut dyn Write, T) -> Result<()>,
+) -> Result<()> {
+    write!(out, "[")?;
+    for (place, one) in all.enumerate() {
+        if place > 0 {
+            write!(out, ",")?;
+        }
+        print(out, one)?;
+    }
+    write!(out, "]")
 }

@@ -1,4 +1,5 @@
 //! Why the command did not do what it was asked, and its exit status.
+use crate::parts::Location;
 use srci::Refusal;
 use std::ffi::OsString;
 use std::io::{self, Write};
@@ -6,21 +7,36 @@ use std::io::{self, Write};
 pub enum Failure {
     /// What was refused, and why.
     Refused(String, Refusal),
+    /// What was refused, why, and where in it.
+    RefusedAt(String, Refusal, Location),
+    /// What was refused, and why: it is a shader container.
+    Container(String, Refusal),
     /// The payload in which no file has this name.
     NoSuchName(String, OsString),
+    /// The payload in which a file has this name already.
+    NameTaken(String, OsString),
     /// What is wrong, and the usage.
     Usage(String, String),
     /// `read` or `write`, which file, and why not.
     File(&'static str, String, io::Error),
+    /// Of several files, which were told already: the greatest status.
+    Told(u8),
 }
 
 impl Failure {
     pub fn status(&self) -> u8 {
         match self {
-            Failure::Refused(..) | Failure::NoSuchName(..) => 1,
+            Failure::Refused(..) | Failure::RefusedAt(..) | Failure::Container(..) => 1,
+            Failure::NoSuchName(..) | Failure::NameTaken(..) => 1,
             Failure::Usage(..) => 2,
             Failure::File(..) => 3,
+            Failure::Told(status) => *status,
         }
+    }
+
+    /// Whether what is printed cannot be.
+    pub fn is_of_output(&self) -> bool {
+        matches!(self, Failure::File("write", ..))
     }
 
     /// Says it on standard error. Where that cannot be written the exit status tells enough.
@@ -28,15 +44,28 @@ impl Failure {
         let mut out = io::stderr();
         let _ = match self {
             Failure::Refused(what, refusal) => writeln!(out, "srci: {what}: refused {refusal}"),
+            Failure::RefusedAt(what, refusal, location) => {
+                writeln!(out, "srci: {what}: refused {refusal} ({location})")
+            }
+            Failure::Container(what, refusal) => writeln!(
+                out,
+                "srci: {what}: refused {refusal}\nsrci: {what} is a shader container; the payload is \
+                 its part SRCI, which has to be cut out of it"
+            ),
             Failure::NoSuchName(what, name) => {
                 writeln!(out, "srci: {what}: no file is named {name:?}")
             }
-            Failure::Usage(what, usage) => writeln!(out, "srci: {what}\n{usage}"),
+            Failure::NameTaken(what, name) => writeln!(
+                out,
+                "srci: {what}: a file is named {name:?} already; --merge renames all the same"
+            ),
+            Failure::Usage(what, usage) => write!(out, "srci: {what}\n{usage}"),
             // whoever reads what is printed has seen enough, as `head` has
             Failure::File(_, _, error) if error.kind() == io::ErrorKind::BrokenPipe => Ok(()),
             Failure::File(doing, what, error) => {
                 writeln!(out, "srci: cannot {doing} {what}: {error}")
             }
+            Failure::Told(_) => Ok(()),
         };
     }
 }

@@ -1,94 +1,221 @@
 //! What each command does with its operands.
 use crate::arguments::Call;
+use crate::commands::{EMPTY, FORCE, JSON, MERGE, NAMED};
 use crate::failure::Failure;
-use crate::{facts, files, rows};
-use srci::{Refusal, Row};
+use crate::files;
+use crate::output::Output;
+use crate::parts;
+use crate::table::{Columns, Table};
+use crate::text::{Field, Json};
+use crate::{facts, rows};
+use srci::{Frame, Refusal};
+use std::ffi::OsStr;
+use std::fmt::Display;
+use std::io::{self, Write};
 use std::os::unix::ffi::OsStrExt;
 
-/// Shown where nothing is asked for: packed sources, an unknown section, two names and two pairs.
+/// Packed sources, an unknown section, two names and two pairs.
 const SAMPLE: &[u8] = include_bytes!("../../crates/show_card/stdin");
 
 pub fn sample() -> Result<(), Failure> {
-    let card = srci::card(SAMPLE).map_err(refused("the sample"))?;
+    let refused = |refusal| Failure::Refused("the sample".to_string(), refusal);
+    let card = srci::card(SAMPLE).map_err(refused)?;
     files::print(|out| out.write_all(card.as_bytes()))
 }
 
 pub fn card(call: &Call) -> Result<(), Failure> {
-    let (payload, named) = call.payload()?;
-    let card = srci::card(&payload).map_err(refused(&named))?;
-    files::print(|out| out.write_all(card.as_bytes()))
-}
-
-pub fn facts(call: &Call) -> Result<(), Failure> {
-    let (payload, named) = call.payload()?;
-    let copy = srci::public_copy(&payload).map_err(refused(&named))?;
-    let rows = srci::read(&copy).map_err(refused("the public copy"))?;
-    let print = if call.option {
-        facts::json
-    } else {
-        facts::table
-    };
-    files::print(|out| print(&copy, &rows, out))
+    each(call, |payload| payload.print_lines(payload.by(srci::card)?))
 }
 
 pub fn list(call: &Call) -> Result<(), Failure> {
-    let (payload, named) = call.payload()?;
-    let listing = srci::list(&payload).map_err(refused(&named))?;
-    files::print(|out| out.write_all(listing.as_bytes()))
+    each(call, |payload| payload.print_lines(payload.by(srci::list)?))
+}
+
+pub fn facts(call: &Call) -> Result<(), Failure> {
+    let mut columns = Columns::new(&facts::FIELDS);
+    each(call, |payload| {
+        let facts = payload.by(|payload| srci::facts(payload, usize::MAX))?;
+        if call.has(JSON) {
+            return payload.print_json("facts", |out| facts::json(&facts, out));
+        }
+        payload.print_table(&mut columns, |first, table| {
+            facts::table(&facts, first, table)
+        })
+    })
 }
 
 pub fn rows(call: &Call) -> Result<(), Failure> {
-    let (payload, named) = call.payload()?;
-    let rows = srci::read(&payload).map_err(refused(&named))?;
-    let print = if call.option { rows::json } else { rows::table };
-    files::print(|out| print(&payload, &rows, out))
-}
-
-pub fn public_copy(call: &Call) -> Result<(), Failure> {
-    let (payload, named) = call.payload()?;
-    let copy = srci::public_copy(&payload).map_err(refused(&named))?;
-    files::write(&call.operands[1], &copy, call.option)
-}
-
-/// Every name that is the old one is pointed at the edit text, which is the new one, and all other rows stay.
-pub fn rename(call: &Call) -> Result<(), Failure> {
-    let (payload, named) = call.payload()?;
-    let [old, new] = [1, 2].map(|place| call.operands[place].as_bytes());
-    let mut rows = srci::read(&payload).map_err(refused(&named))?;
-    let is_old = |row: &&mut Row| row.tag == Row::NAME && row.text(&payload, b"") == Some(old);
-    let mut found = false;
-    for row in rows.iter_mut().filter(is_old) {
-        row.side = Row::EDIT;
-        row.a = 0;
-        // a word of the command line is far shorter than 2 to the 32
-        row.b = new.len() as u32;
-        found = true;
-    }
-    if !found {
-        return Err(Failure::NoSuchName(named, call.operands[1].clone()));
-    }
-    let renamed =
-        srci::write(&payload, new, &rows).map_err(refused(&format!("{named}, renamed")))?;
-    files::write(&call.operands[3], &renamed, call.option)
+    let mut columns = Columns::new(&rows::FIELDS);
+    each(call, |payload| {
+        let rows = payload.by(srci::read)?;
+        if call.has(JSON) {
+            return payload.print_json("rows", |out| rows::json(&payload.bytes, &rows, out));
+        }
+        payload.print_table(&mut columns, |first, table| {
+            rows::table(&payload.bytes, &rows, first, table)
+        })
+    })
 }
 
 pub fn check(call: &Call) -> Result<(), Failure> {
-    let (payload, named) = call.payload()?;
-    // a table of no rows is refused last, and only if the payload is accepted
-    match srci::lent::read(&payload, &mut []) {
-        Ok(_) | Err(Refusal::NoRows(_)) => files::print(|out| out.write_all(b"accepted\n")),
-        Err(refusal) => Err(refused(&named)(refusal)),
+    each(call, |payload| {
+        payload.by(parts::check)?;
+        files::print(|out| match payload.name() {
+            Some(name) => writeln!(out, "{}: accepted", Field(&name)),
+            None => writeln!(out, "accepted"),
+        })
+    })
+}
+
+pub fn public_copy(call: &Call) -> Result<(), Failure> {
+    // looked at, and locked, before FILE is read, which can be the same file
+    let out = Output::open(&call.operands[1], call.has(FORCE))?;
+    let copy = Payload::read(&call.operands[0])?.by(srci::public_copy)?;
+    out.write(&copy)
+}
+
+pub fn rename(call: &Call) -> Result<(), Failure> {
+    let [file, old, new, out] = [0, 1, 2, 3].map(|place| call.operands[place].as_os_str());
+    if new.is_empty() && !call.has(EMPTY) {
+        let what = "NEW is empty; --empty renames all the same".to_string();
+        return Err(call.command.wrong(what));
+    }
+    let out = Output::open(out, call.has(FORCE))?;
+    let payload = Payload::read(file)?;
+    payload.by(parts::check)?;
+    let named = files::named(file);
+    let Some(old) = old.to_str().filter(|old| payload.has_file(old)) else {
+        return Err(Failure::NoSuchName(named, old.to_owned()));
+    };
+    if new != old && !call.has(MERGE) && new.to_str().is_some_and(|new| payload.has_file(new)) {
+        return Err(Failure::NameTaken(named, new.to_owned()));
+    }
+    // what is put together here is checked as a whole by the library
+    let renamed = parts::renamed(&payload.bytes, old, new.as_bytes())
+        .and_then(|renamed| parts::check(&renamed).map(|()| renamed))
+        .map_err(|refusal| Failure::Refused(format!("{named}, renamed"), refusal))?;
+    out.write(&renamed)
+}
+
+/// The payload in a FILE.
+struct Payload<'a> {
+    file: &'a OsStr,
+    bytes: Vec<u8>,
+    /// Whether it is told with its name.
+    is_named: bool,
+}
+
+/// Does a job for each FILE. Of several, one that fails does not keep the others back.
+fn each(call: &Call, mut job: impl FnMut(Payload) -> Result<(), Failure>) -> Result<(), Failure> {
+    let are_several = call.operands.len() > 1;
+    let is_named = are_several || call.has(NAMED);
+    let mut status = 0;
+    for file in &call.operands {
+        let read = Payload::read(file);
+        match read.and_then(|payload| {
+            job(Payload {
+                is_named,
+                ..payload
+            })
+        }) {
+            Err(failure) if are_several && !failure.is_of_output() => {
+                failure.tell();
+                status = status.max(failure.status());
+            }
+            done => done?,
+        }
+    }
+    match status {
+        0 => Ok(()),
+        _ => Err(Failure::Told(status)),
     }
 }
 
-impl Call {
-    /// The payload in FILE, the first operand, and how messages name it.
-    fn payload(&self) -> Result<(Vec<u8>, String), Failure> {
-        let file = &self.operands[0];
-        Ok((files::read(file)?, files::named(file)))
+impl<'a> Payload<'a> {
+    fn read(file: &'a OsStr) -> Result<Self, Failure> {
+        Ok(Payload {
+            file,
+            bytes: files::read(file)?,
+            is_named: false,
+        })
     }
-}
 
-fn refused(what: &str) -> impl Fn(Refusal) -> Failure + '_ {
-    move |refusal| Failure::Refused(what.to_string(), refusal)
+    /// What a job makes of the payload.
+    fn by<T>(&self, job: impl Fn(&[u8]) -> Result<T, Refusal>) -> Result<T, Failure> {
+        job(&self.bytes).map_err(|refusal| {
+            let named = files::named(self.file);
+            if self.bytes.starts_with(b"DXBC") {
+                return Failure::Container(named, refusal);
+            }
+            match parts::location(&self.bytes, refusal) {
+                Some(location) => Failure::RefusedAt(named, refusal, location),
+                None => Failure::Refused(named, refusal),
+            }
+        })
+    }
+
+    /// Whether it has a file of this name; the payload is accepted.
+    fn has_file(&self, name: &str) -> bool {
+        srci::frames(&self.bytes)
+            .flat_map(Frame::names)
+            .any(|found| found == name)
+    }
+
+    /// The file's name, if it is to be told.
+    fn name(&self) -> Option<String> {
+        let name = || match self.file.to_str() {
+            Some(name) if !files::is_stream(self.file, 0) => name.to_string(),
+            // in quotes, with escapes for what is no text
+            _ => files::named(self.file),
+        };
+        self.is_named.then(name)
+    }
+
+    fn print_lines(&self, lines: impl Display) -> Result<(), Failure> {
+        files::print(|out| {
+            if let Some(name) = self.name() {
+                writeln!(out, "==> {} <==", Field(&name))?;
+            }
+            write!(out, "{lines}")
+        })
+    }
+
+    fn print_table(
+        &self,
+        columns: &mut Columns,
+        print: impl FnOnce(&[&dyn Display], &mut Table) -> io::Result<()>,
+    ) -> Result<(), Failure> {
+        let name = self.name();
+        let name = name.as_deref().map(Field);
+        let first: Vec<&dyn Display> = name.iter().map(|name| name as _).collect();
+        files::print(|out| {
+            let header = columns.take_header();
+            let mut table = Table::new(out, columns, files::is_terminal());
+            if let Some(header) = header {
+                let file: Vec<&dyn Display> = first.iter().map(|_| &"file" as _).collect();
+                let fields: Vec<&dyn Display> = header.iter().map(|field| field as _).collect();
+                table.line(&file, &fields)?;
+            }
+            print(&first, &mut table)?;
+            table.flush()
+        })
+    }
+
+    fn print_json(
+        &self,
+        what: &str,
+        print: impl FnOnce(&mut dyn Write) -> io::Result<()>,
+    ) -> Result<(), Failure> {
+        files::print(|out| match self.name() {
+            None => {
+                print(out)?;
+                writeln!(out)
+            }
+            Some(name) => {
+                write!(out, "{{\"file\":{},\"{what}\":", Json(&name))?;
+                print(out)?;
+                writeln!(out, "}}")
+            }
+        })
+    }
 }

@@ -1,10 +1,19 @@
 //! `srci`: SRCI payloads at a terminal. The jobs are those of the proved library; here are the words around them.
 mod arguments;
+mod commands;
 mod facts;
 mod failure;
 mod files;
 mod jobs;
+mod manual;
+mod memory;
+mod old;
+mod output;
+mod parts;
+mod place;
 mod rows;
+mod system;
+mod table;
 mod text;
 
 use arguments::Asked;
@@ -27,7 +36,7 @@ fn main() -> ExitCode {
 fn answer(asked: Asked) -> Result<(), Failure> {
     match asked {
         Asked::Sample => jobs::sample(),
-        Asked::Help(help) => files::print(|out| out.write_all(help.as_bytes())),
-        Asked::Command(call) => (call.run)(&call),
+        Asked::Text(text) => files::print(|out| out.write_all(text.as_bytes())),
+        Asked::Command(call) => (call.command.run)(&call),
     }
 }

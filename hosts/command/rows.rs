@@ -1,10 +1,26 @@
 //! The rows of a payload, printed with their texts.
+use crate::table::Table;
 use crate::text::{Field, Json};
 use srci::Row;
+use std::fmt::Display;
 use std::io::{Result, Write};
 
-pub fn table(payload: &[u8], rows: &[Row], out: &mut dyn Write) -> Result<()> {
-    writeln!(out, "tag\trow\tside\tA\tB\tC\tD\tE\ttext\tvalue")?;
+pub const FIELDS: [&str; 10] = [
+    "tag", "row", "side", "A", "B", "C", "D", "E", "text", "value",
+];
+
+/// A text of an accepted payload, which is UTF-8.
+fn text(part: Option<&[u8]>) -> Option<&str> {
+    std::str::from_utf8(part?).ok()
+}
+
+/// Each line begins with these fields.
+pub fn table(
+    payload: &[u8],
+    rows: &[Row],
+    first: &[&dyn Display],
+    table: &mut Table,
+) -> Result<()> {
     for row in rows {
         let Row {
             tag,
@@ -15,11 +31,11 @@ pub fn table(payload: &[u8], rows: &[Row], out: &mut dyn Write) -> Result<()> {
             d,
             e,
         } = row;
-        let [text, value] = [row.text(payload, b""), row.value(payload, b"")].map(Field);
-        let kind = row.kind();
-        writeln!(
-            out,
-            "{tag}\t{kind}\t{side}\t{a}\t{b}\t{c}\t{d}\t{e}\t{text}\t{value}"
+        let [text, value] = [row.text(payload, b""), row.value(payload, b"")]
+            .map(|part| Field(text(part).unwrap_or_default()));
+        table.line(
+            first,
+            &[tag, &row.kind(), side, a, b, c, d, e, &text, &value],
         )?;
     }
     Ok(())
@@ -38,19 +54,19 @@ pub fn json(payload: &[u8], rows: &[Row], out: &mut dyn Write) -> Result<()> {
             e,
         } = row;
         let before = if place == 0 { "\n" } else { ",\n" };
+        let kind = row.kind();
         write!(
             out,
-            "{before}{{\"tag\":{tag},\"row\":\"{}\",\"side\":{side}",
-            row.kind()
+            "{before}{{\"tag\":{tag},\"row\":\"{kind}\",\"side\":{side}"
         )?;
         write!(out, ",\"a\":{a},\"b\":{b},\"c\":{c},\"d\":{d},\"e\":{e}")?;
-        if let Some(text) = row.text(payload, b"").map(Json) {
+        if let Some(text) = text(row.text(payload, b"")).map(Json) {
             write!(out, ",\"text\":{text}")?;
         }
-        if let Some(value) = row.value(payload, b"").map(Json) {
+        if let Some(value) = text(row.value(payload, b"")).map(Json) {
             write!(out, ",\"value\":{value}")?;
         }
         write!(out, "}}")?;
     }
-    writeln!(out, "\n]")
+    write!(out, "\n]")
 }

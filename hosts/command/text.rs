@@ -26,12 +26,11 @@ fn is_unseen(c: char) -> bool {
 }
 
 /// A text as a field of a tab-parted line.
-pub struct Field<'a>(pub Option<&'a [u8]>);
+pub struct Field<'a>(pub &'a str);
 
 impl Display for Field<'_> {
     fn fmt(&self, f: &mut Formatter) -> Result {
-        let text = String::from_utf8_lossy(self.0.unwrap_or_default());
-        for part in text.split_inclusive(|c| c == '\\' || is_unseen(c)) {
+        for part in self.0.split_inclusive(|c| c == '\\' || is_unseen(c)) {
             let mut shown = part.chars();
             match shown.next_back() {
                 Some('\\') => write!(f, "{}\\\\", shown.as_str())?,
@@ -47,13 +46,15 @@ impl Display for Field<'_> {
 }
 
 /// A text as a JSON string.
-pub struct Json<'a>(pub &'a [u8]);
+pub struct Json<'a>(pub &'a str);
 
 impl Display for Json<'_> {
     fn fmt(&self, f: &mut Formatter) -> Result {
-        let text = String::from_utf8_lossy(self.0);
         f.write_char('"')?;
-        for part in text.split_inclusive(|c| c == '\\' || c == '"' || is_unseen(c)) {
+        for part in self
+            .0
+            .split_inclusive(|c| c == '\\' || c == '"' || is_unseen(c))
+        {
             let mut shown = part.chars();
             match shown.next_back() {
                 Some(c @ ('\\' | '"')) => write!(f, "{}\\{c}", shown.as_str())?,

@@ -1,4 +1,7 @@
-"""The Python package on buffers of every kind, and on payloads at the limit."""
+"""The Python package on buffers of every kind, and on payloads at the limit; Python's lock; refusals and rows."""
+import asyncio
+import contextlib
+import copy
 import mmap
 import pickle
 import sys
@@ -11,17 +14,10 @@ from array import array
 import srci
 from sections import arguments, card, contents, listing, names, packed, payload, unknown
 from srci import _calls
+from trying import most_pairs, raises, run_tests
 
 PARTS = [packed(b"closed", 2), unknown(7, b"abcd"), names((b"sky.hlsl", 5)), arguments((b"E", b"main"))]
 PAYLOAD = payload(*PARTS)
-
-
-def raises(error, job, *given):
-    try:
-        job(*given)
-    except error as raised:
-        return raised
-    raise AssertionError(f"{job.__name__} raises no {error.__name__}")
 
 
 def test_every_buffer():
@@ -48,7 +44,7 @@ def expect_jobs(buffer):
 
 
 def test_not_a_buffer():
-    for job in (srci.read, srci.list, srci.public_copy, srci.card):
+    for job in (srci.read, srci.listing, srci.public_copy, srci.card, srci.facts, srci.names):
         raises(TypeError, job, "a text")
         raises(BufferError, job, memoryview(PAYLOAD)[::2])
 
@@ -76,35 +72,143 @@ def test_an_interrupted_call_gives_its_buffer_back():
     buffer += b"more"
 
 
-def test_a_call_keeps_pythons_lock():
-    pairs = payload(arguments(*[(b"", b"")] * 5_000_000))
+PAIRS = payload(arguments(*[(b"", b"")] * 1_000_000))
+PATIENCE = 30  # seconds
+
+
+class Changing(bytes):
+    """A subclass of bytes, which may have a buffer that changes."""
+
+
+@contextlib.contextmanager
+def lock_is_given_alone():
+    """Here no thread takes Python's lock from another that does not give it."""
+    interval = sys.getswitchinterval()
+    sys.setswitchinterval(1000)
+    try:
+        yield
+    finally:
+        sys.setswitchinterval(interval)
+
+
+@contextlib.contextmanager
+def other_thread():
+    """How often another thread has had its turn, as a function; it has one only where this thread gives the lock."""
     turns = 0
+    is_over = False
 
     def count():
         nonlocal turns
-        while turns is not None:
+        while not is_over:
             turns += 1
             time.sleep(0.0001)
 
-    interval = sys.getswitchinterval()
     thread = threading.Thread(target=count, daemon=True)
-    thread.start()
-    sys.setswitchinterval(1000)  # no thread takes the lock from another that does not give it
-    before = turns
-    srci.card(pairs)
-    after = turns
-    sys.setswitchinterval(interval)
-    turns = None
+    with lock_is_given_alone():
+        thread.start()
+        while turns < 3:
+            time.sleep(0.001)
+        yield lambda: turns
+    is_over = True
     thread.join()
-    assert before == after > 0
+
+
+def turns_taken(turns, call):
+    """How many turns another has while this call is made, again and again until there are some."""
+    before, end = turns(), time.monotonic() + PATIENCE
+    while turns() - before < 3 and time.monotonic() < end:
+        call()
+    return turns() - before
+
+
+def test_a_call_on_bytes_releases_pythons_lock():
+    rows = srci.read(PAIRS)
+    for call in (
+        lambda: srci.card(PAIRS),
+        lambda: srci.listing(PAIRS),
+        lambda: srci.public_copy(PAIRS),
+        lambda: srci.facts(PAIRS),
+        lambda: srci.read(PAIRS),
+        lambda: srci.write(PAIRS, b"", rows),
+    ):
+        with other_thread() as turns:
+            assert turns_taken(turns, call) >= 3
+
+
+def test_a_call_on_what_may_change_keeps_pythons_lock():
+    rows = srci.read(PAIRS)
+    lent = bytearray(PAIRS)
+    for call in (
+        lambda: srci.card(lent),
+        lambda: srci.listing(memoryview(lent)),
+        lambda: srci.public_copy(memoryview(PAIRS)),
+        lambda: srci.facts(lent),
+        lambda: srci.read(Changing(PAIRS)),
+        lambda: srci.write(lent, b"", rows),
+        lambda: srci.write(PAIRS, bytearray(), rows),
+    ):
+        with other_thread() as turns:
+            before = turns()
+            for _ in range(3):
+                call()
+            assert turns() == before
+
+
+def test_asyncio_stays_awake_with_to_thread():
+    async def watched(job):
+        turns = 0
+        calling = asyncio.create_task(asyncio.to_thread(turns_taken, lambda: turns, lambda: job(PAIRS)))
+        while not calling.done():
+            await asyncio.sleep(0.0001)
+            turns += 1
+        return await calling
+
+    for job in (srci.card, srci.names):
+        with lock_is_given_alone():
+            assert asyncio.run(watched(job)) >= 3
 
 
 def test_refused():
     refused = raises(srci.Refused, srci.read, PAYLOAD[:-1])
-    assert (refused.number, refused.name, refused.second) == (2, "ragged", 0)
-    assert str(refused) == "refused 2, ragged"
-    again = pickle.loads(pickle.dumps(refused))
-    assert (again.number, again.name, again.second) == (2, "ragged", 0)
+    meaning = "The payload has fewer than 8 bytes, or a length that is no multiple of 4."
+    for one in (refused, pickle.loads(pickle.dumps(refused)), copy.copy(refused)):
+        assert (one.number, one.name, one.meaning, one.second) == (2, "ragged", meaning, 0)
+        assert str(one) == f"refused 2, ragged: {meaning}"
+    assert (srci.Refused(16, 5).second, srci.Refused(number=19).name) == (5, "no room")
+    for number in (0, 20, -1, 2**32):
+        raises(ValueError, srci.Refused, number)
+    assert len(srci.REFUSALS) == 19
+    for number, name in enumerate(srci.REFUSALS, 1):
+        assert str(srci.Refused(number)).startswith(f"refused {number}, {name}: ")
+
+
+def test_equal_rows():
+    rows = srci.read(PAYLOAD)
+    others = srci.read(PAYLOAD[:8] + PAYLOAD[8:])
+    assert rows == others and not rows != others and rows is not others
+    assert rows == srci.Rows(rows) == pickle.loads(pickle.dumps(rows))
+    for same in ([*rows], (*rows,), [tuple(row) for row in rows]):
+        assert rows == same and same == rows and not rows != same
+    changed = [*rows[:-1], rows[-1]._replace(d=3)]
+    longer = [*rows, rows[-1]]
+    for other in (changed, longer, [*rows[:-1]], [*rows[:-1], None], [*rows[:-1], "a"], []):
+        assert rows != other and other != rows and rows != tuple(other)
+    for other in (srci.Rows(changed), srci.Rows(longer), srci.Rows(), None, 6, "rows", b"", {}):
+        assert rows != other and other != rows
+    assert srci.Rows() == [] and srci.Rows() != "" and srci.Rows() != b""
+    assert [*rows] == [rows[place] for place in range(len(rows))] and [*reversed(rows)] == [*rows][::-1]
+    raises(TypeError, hash, rows)
+
+
+def test_rows_are_compared_by_their_numbers():
+    class Still(srci.Rows):
+        def __iter__(self):
+            raise AssertionError("a row was made")
+
+        __getitem__ = __iter__
+
+    still = Still([*srci.read(PAYLOAD)])
+    assert still == Still([*srci.read(PAYLOAD)]) and still == srci.read(PAYLOAD) and still != Still()
 
 
 def test_rows():
@@ -140,17 +244,9 @@ def test_the_limit():
 
 
 def test_the_most_rows():
-    pairs = (srci.LIMIT - 28) // 2
-    whole = payload(arguments(*[(b"", b"")] * pairs))
+    whole, pairs = most_pairs()
     rows = srci.read(whole)
     assert len(rows) == 1 + pairs and rows[-1] == (7, 0, srci.LIMIT - 2, 0, srci.LIMIT - 1, 0, 0)
 
 
-def main():
-    tests = [(name, test) for name, test in globals().items() if name.startswith("test_")]
-    for name, test in tests:
-        test()
-        print(f"ok: {name[5:].replace('_', ' ')}")
-
-
-main()
+run_tests(globals())

@@ -2,51 +2,23 @@
 
     command.py SRCI
 
-What is expected is worked out apart from the library: by tests/programs from what a payload is made of, by hand, or from
-the stored calls of crates/replay.
+What is expected is worked out apart from the library: by tests/programs from what a payload is made of, by hand, or
+from the stored calls of crates/replay.
 """
 import json
 import os
 import pathlib
 import random
+import re
 import resource
-import shutil
-import signal
-import stat
-import subprocess
-import sys
-import tempfile
-import time
+import struct
 
+from calling import fails, prints, run, run_tests
 from cases import SAMPLE, line_cases, refusal_cases
 from sections import arguments, card, contents, listing, names, packed, payload, unknown
 from srci import LIMIT, REFUSALS
 
 ROOT = pathlib.Path(__file__).resolve().parents[2]
-NOBODY = 65534
-
-
-def run(*words, data=b"", **options):
-    """What is printed to each stream, and the exit status."""
-    given = {} if "stdin" in options else {"input": data}
-    options = {"stdout": subprocess.PIPE, "stderr": subprocess.PIPE, "timeout": 60, **given, **options}
-    done = subprocess.run([SRCI, *words], **options)
-    return done.stdout, done.stderr, done.returncode
-
-
-def prints(text, *words, **options):
-    text = text if isinstance(text, bytes) else text.encode()
-    out, err, status = run(*words, **options)
-    assert (out, err, status) == (text, b"", 0), f"{words}: {out[:300]!r}, {err[:300]!r}, {status}, not {text[:300]!r}"
-
-
-def fails(status, said, *words, **options):
-    """A call with this exit status, that prints nothing and says this among other things on standard error."""
-    out, err, told = run(*words, **options)
-    assert (out or b"", told) == (b"", status), f"{words}: {out!r:.300}, {told}, not {status}"
-    assert err.startswith(b"srci: ") and said.encode() in err, f"{words}: {err!r} does not say {said!r}"
-    assert b"panicked" not in err
-
 
 # What the sentence of each refusal must say, by the specification's table.
 MEANINGS = {
@@ -83,8 +55,8 @@ def stored_calls(job):
             yield bytes.fromhex(call.split(" ")[2]), int(number), bytes.fromhex("".join(stored))
 
 
-def test_no_argument_shows_a_card(folder):
-    prints((ROOT / "crates/show_card/stdout").read_text(), cwd=folder)
+def test_the_sample(folder):
+    prints((ROOT / "crates/show_card/stdout").read_text(), "--sample", cwd=folder)
 
 
 def test_cards_and_listings(folder):
@@ -108,6 +80,47 @@ def test_refused_payloads(folder):
         is_refused(number, "rename", file, "a", "b", out)
     is_refused(2, "check", "-")
     assert os.listdir(folder) == ["payload"]
+
+
+# Of the cases of refusals, those whose fault is not in the first section.
+AFTER = {
+    "a section past the end": "section 1, at byte 48",
+    "four zeros after the sample": "after the last section, at byte 76",
+    "a section more than the count": "after the last section, at byte 48",
+}
+
+
+def moved(place, number, bytes):
+    """A place behind so many more sections, of so many bytes."""
+    place = re.sub(r"(?<=section )\d+", lambda found: str(int(found[0]) + number), place)
+    return re.sub(r"(?<=byte )\d+", lambda found: str(int(found[0]) + bytes), place)
+
+
+def test_places_of_refusals(folder):
+    before = names((b"sky.hlsl", 45)).data + unknown(7, b"made by Mira").data
+    for case in refusal_cases():
+        number = int(case.printed["show_card"].split()[2])
+        _, said, _ = run("check", "-", data=case.data)
+        if number < 4:
+            assert said.endswith(b".\n"), said
+            continue
+        name = case.name.split(": ", 1)[-1]
+        place = AFTER.get(name, "section 0, at byte 8")
+        assert said.endswith(f" ({place})\n".encode()), f"{case.name}: {said}, not {place}"
+        length, flags, count = struct.unpack_from("<IHH", case.data)
+        data = struct.pack("<IHH", length + len(before), flags, count + 2) + before + case.data[8:]
+        place = moved(place, 2, len(before))
+        _, said, _ = run("card", "-", data=data)
+        assert said.endswith(f" ({place})\n".encode()), f"{case.name}: {said}, not {place}"
+
+
+def test_containers(folder):
+    # the least container: a digest, versions 1 and 0, its size, and no parts
+    for data in (b"DXBC" + bytes(16) + struct.pack("<HHII", 1, 0, 32, 0), b"DXBC" + bytes(27)):
+        out, said, status = run("card", "-", data=data)
+        assert (out, status) == (b"", 1) and b"shader container" in said and b"SRCI" in said, said
+    _, said, _ = run("card", "-", data=b"DXBD" + bytes(28))
+    assert b"container" not in said
 
 
 UNSEEN = "a\tb\nc\\d\r\x1b[2J\x7f\x85\u202e\u200b\U000e0041\u2028é\U0001f600\""
@@ -179,7 +192,8 @@ def test_rows(folder):
     prints("".join(line + "\n" for line in table), "rows", "-", data=SAMPLE)
     fields = ["tag", "row", "side", "a", "b", "c", "d", "e", "text", "value"]
     rows = json.loads(run("rows", "-", "--json", data=SAMPLE)[0])
-    expected = [dict(zip(fields, [int(word) if word.isdigit() else word for word in line.split("\t")])) for line in table[1:]]
+    words = [[int(word) if word.isdigit() else word for word in line.split("\t")] for line in table[1:]]
+    expected = [dict(zip(fields, line)) for line in words]
     assert rows == [{field: value for field, value in row.items() if value != ""} for row in expected]
     others = [contents(UNSEEN.encode()), packed(b"\xff\xfe", 1, 5), unknown(9, b"\xff\xfe\xfd\xfc")]
     table = [
@@ -214,19 +228,73 @@ def test_rename(folder):
 
     file, out = folder / "payload", folder / "out"
     file.write_bytes(made(b"old"))
-    for new in ["a", "a longer name.hlsl", "", "новое имя", "-", "old"]:
+    for new in ["a", "a longer name.hlsl", "новое имя", "-", "old"]:
         prints("", "rename", file, "old", new, out, "--force")
         assert out.read_bytes() == made(new.encode())
     prints(made(b"--force"), "rename", "--", file, "old", "--force", "-")
-    fails(1, 'no file is named "ol"', "rename", file, "ol", "new", folder / "none")
-    fails(1, 'no file is named "OLD"', "rename", file, "OLD", "new", folder / "none")
-    is_refused(11, "rename", file, "old", b"\xff", folder / "none")
-    assert not (folder / "none").exists()
+    none = folder / "none"
+    fails(1, 'no file is named "ol"', "rename", file, "ol", "new", none)
+    fails(1, 'no file is named "OLD"', "rename", file, "OLD", "new", none)
+    fails(1, "no file is named", "rename", file, b"\xff", "new", none)
+    is_refused(11, "rename", file, "old", b"\xff", none)
+    # two files would become one, or a file nameless, unless that is said
+    fails(1, 'a file is named "other.hlsl" already', "rename", file, "old", "other.hlsl", none)
+    fails(1, 'a file is named "old" already', "rename", file, "other.hlsl", "old", none)
+    fails(2, "NEW is empty", "rename", file, "old", "", none)
+    fails(2, "NEW is empty", "rename", file, "old", "", none, "--merge")
+    assert not none.exists()
+    prints(made(b"other.hlsl"), "rename", "--merge", file, "old", "other.hlsl", "-")
+    prints(made(b""), "rename", file, "old", "", "-", "--empty")
     prints("", "rename", file, "old", "in place", file, "--force")
     assert file.read_bytes() == made(b"in place")
     one = payload(names((b"old", 1)))
     prints(payload(names((b"n" * 65_515, 1))), "rename", "-", "old", "n" * 65_515, "-", data=one)
     is_refused(18, "rename", "-", "old", "n" * 65_516, "-", data=one)
+
+
+def test_rename_among_others(folder):
+    choose = random.Random(22)
+
+    def some():
+        """A section, with `None` where a file is renamed."""
+        texts = [choose.choice([None, b"", b"a", b"sky.hlsl", "имя".encode()]) for _ in range(choose.randrange(5))]
+        kind = choose.choice([contents, arguments, packed, unknown, names, names, names])
+        files = [(text, choose.getrandbits(32)) for text in texts]
+        return lambda name: {
+            contents: lambda: contents(*[text or b"" for text in texts]),
+            arguments: lambda: arguments(*[(text or b"old", b"old") for text in texts]),
+            packed: lambda: packed(b"old"[: len(texts)], 2),
+            unknown: lambda: unknown(9, b"old!" * len(texts)),
+            names: lambda: names(*[(name if text is None else text, size) for text, size in files]),
+        }[kind]()
+
+    tried = 0
+    for _ in range(150):
+        sections = [some() for _ in range(choose.randrange(8))]
+        new = choose.choice([b"n", b"newer name", b"n" * 1000])
+        before, after = (payload(*[section(name) for section in sections]) for name in (b"old", new))
+        if before != after:
+            prints(after, "rename", "-", "old", new, "-", data=before)
+            tried += 1
+    assert tried > 50
+
+
+def limit_memory():
+    resource.setrlimit(resource.RLIMIT_AS, (150 << 20, 150 << 20))
+
+
+def test_memory(folder):
+    pairs, old = (LIMIT - 28 - 40) // 2, names((b"old", 1))
+    file = folder / "payload"
+    file.write_bytes(payload(arguments(*[(b"", b"")] * pairs), old))
+    with open("/dev/null", "wb") as null:
+        for words in (["facts", file], ["facts", file, "--json"], ["card", file]):
+            assert run(*words, stdout=null, preexec_fn=limit_memory)[1:] == (b"", 0)
+    new = payload(arguments(*[(b"", b"")] * pairs), names((b"new", 1)))
+    prints("", "rename", file, "old", "new", folder / "out", preexec_fn=limit_memory)
+    assert (folder / "out").read_bytes() == new
+    # 13 million rows are 367 MB
+    fails(3, "not enough memory", "rows", file, preexec_fn=limit_memory)
 
 
 def test_the_limit(folder):
@@ -256,193 +324,4 @@ def test_the_limit(folder):
     assert out.read_bytes()[42:46] == b"new\0"
 
 
-def test_usage(folder):
-    commands = {
-        "card": "FILE",
-        "facts": "FILE [--json]",
-        "list": "FILE",
-        "rows": "FILE [--json]",
-        "public-copy": "FILE OUT [--force]",
-        "rename": "FILE OLD NEW OUT [--force]",
-        "check": "FILE",
-    }
-    out, err, status = run("--help")
-    assert (err, status) == (b"", 0)
-    for command, operands in commands.items():
-        assert f"  srci {command} {operands}\n".encode() in out
-        help, err, status = run(command, "--help")
-        assert help.startswith(f"usage: srci {command} {operands}\n".encode()) and (err, status) == (b"", 0)
-        usage = f"usage: srci {command} {operands}"
-        count = len(operands.split(" [")[0].split())
-        fails(2, usage, command)
-        fails(2, usage, command, *["-"] * (count - 1))
-        fails(2, usage, command, *["-"] * (count + 1))
-        fails(2, usage, command, "--no-such-option", *["-"] * count)
-    for words in (["crad", "-"], [""], ["-"], ["--json"], ["-x"]):
-        fails(2, "usage: ", *words)
-    fails(2, "usage: ", "card", "--json", "-")
-    fails(2, "usage: ", "public-copy", "-", "-", "--json")
-
-
-def test_files_that_cannot_be_read(folder):
-    fails(3, "cannot read", "card", folder / "none")
-    fails(3, "cannot read", "card", folder)
-    fails(3, "cannot read", "rename", folder / "none", "a", "b", "-")
-    closed = folder / "closed"
-    closed.write_bytes(SAMPLE)
-    closed.chmod(0)
-    fails(3, "cannot read", "card", closed, **as_nobody())
-
-
-def as_nobody():
-    """Root may do what the owner may not."""
-    return {"user": NOBODY, "group": NOBODY} if os.geteuid() == 0 else {}
-
-
-def test_an_output_that_exists(folder):
-    file, out = folder / "payload", folder / "out"
-    file.write_bytes(SAMPLE)
-    copy = payload(names((b"a", 1)), arguments((b"E", b"main")))
-    out.write_bytes(b"old")
-    out.chmod(0o640)
-    for words in (["public-copy", file], ["rename", file, "a", "b"]):
-        fails(3, "--force", *words, out)
-        assert out.read_bytes() == b"old"
-    if os.geteuid() == 0:
-        os.chown(out, NOBODY, NOBODY)
-    owner = out.stat().st_uid
-    prints("", "public-copy", file, out, "--force")
-    assert out.read_bytes() == copy and stat.S_IMODE(out.stat().st_mode) == 0o640 and out.stat().st_uid == owner
-    link = folder / "link"
-    link.symlink_to("out")
-    out.write_bytes(b"old")
-    fails(3, "--force", "public-copy", file, link)
-    prints("", "public-copy", "--force", file, link)
-    assert link.is_symlink() and out.read_bytes() == copy
-    nowhere = folder / "nowhere"
-    nowhere.symlink_to("none")
-    for force in ([], ["--force"]):
-        fails(3, "a link to nothing", "public-copy", file, nowhere, *force)
-    assert nowhere.is_symlink()
-    pipe = folder / "pipe"
-    os.mkfifo(pipe)
-    for special in (pipe, folder, "/dev/null"):
-        fails(3, "no regular file", "public-copy", file, special, "--force")
-    assert stat.S_ISFIFO(pipe.stat().st_mode) and stat.S_ISCHR(os.stat("/dev/null").st_mode)
-    fails(3, "cannot write", "public-copy", file, folder / "none" / "out")
-    fails(3, "cannot write", "public-copy", file, "")
-    assert sorted(os.listdir(folder)) == ["link", "nowhere", "out", "payload", "pipe"]
-
-
-def test_calls_at_once(folder):
-    # one that looks first and renames then would at times replace another's file: in one round of 30 or so
-    file, out = folder / "payload", folder / "out"
-    file.write_bytes(SAMPLE)
-    for _ in range(30):
-        calls = [subprocess.Popen([SRCI, "public-copy", file, out], stderr=subprocess.DEVNULL) for _ in range(40)]
-        assert sorted(call.wait() for call in calls) == [0] + [3] * 39
-        assert sorted(os.listdir(folder)) == ["out", "payload"]
-        out.unlink()
-
-
-def test_streams_that_cannot_be_used(folder):
-    file = folder / "payload"
-    file.write_bytes(SAMPLE)
-    with open("/dev/full", "wb") as full:
-        for status, words in [(1, ["check", "/dev/null"]), (2, ["card"]), (3, ["card", folder])]:
-            assert run(*words, stderr=full)[2] == status
-    with open("/dev/null", "rb") as read_only, open(folder / "out", "wb") as write_only:
-        fails(3, "cannot write standard output", "card", file, stdout=read_only)
-        fails(3, "cannot read standard input", "card", "-", stdin=write_only)
-
-
-def test_a_read_only_folder(folder):
-    (folder / "payload").write_bytes(SAMPLE)
-    closed = folder / "closed"
-    closed.mkdir()
-    (closed / "out").write_bytes(b"old")
-    closed.chmod(0o555)
-    for out in ("out", "new"):
-        fails(3, "cannot write", "public-copy", folder / "payload", closed / out, "--force", **as_nobody())
-    assert os.listdir(closed) == ["out"] and (closed / "out").read_bytes() == b"old"
-
-
-def large(folder):
-    """A file whose public copy is 2 MB long, and the copy."""
-    pairs = arguments(*[(b"E", b"main")] * 250_000)
-    (folder / "payload").write_bytes(payload(pairs, unknown(3)))
-    return folder / "payload", payload(pairs)
-
-
-def limit_files():
-    """From here on the signal SIGXFSZ comes when a file would pass 100,000 bytes, and no core is left."""
-    resource.setrlimit(resource.RLIMIT_FSIZE, (100_000, 100_000))
-    resource.setrlimit(resource.RLIMIT_CORE, (0, 0))
-
-
-def test_a_full_disk(folder):
-    file, _ = large(folder)
-    with open("/dev/full", "wb") as full:
-        fails(3, "cannot write standard output: No space left", "card", file, stdout=full)
-        fails(3, "cannot write standard output: No space left", "rows", file, stdout=full)
-        fails(3, "cannot write standard output: No space left", "public-copy", file, "-", stdout=full)
-        fails(3, "cannot write standard output: No space left", "--help", stdout=full)
-    # Python has the signal ignored: so the write fails in the middle, as on a disk that fills up
-    for old in (None, b"old"):
-        out = folder / "out"
-        if old:
-            out.write_bytes(old)
-        fails(3, "cannot write", "public-copy", file, out, "--force", restore_signals=False, preexec_fn=limit_files)
-        assert sorted(os.listdir(folder)) == (["out", "payload"] if old else ["payload"])
-    assert out.read_bytes() == b"old"
-
-
-def test_an_interrupted_write(folder):
-    file, copy = large(folder)
-    out = folder / "out"
-    out.write_bytes(b"old")
-    # the signal kills the command in the middle of the write
-    _, _, status = run("public-copy", file, out, "--force", preexec_fn=limit_files)
-    assert status == -signal.SIGXFSZ and out.read_bytes() == b"old"
-    left = [name for name in os.listdir(folder) if name not in ("out", "payload")]
-    assert len(left) == 1 and left[0].startswith(".srci-")
-    # killed at any time
-    start = time.monotonic()
-    prints("", "public-copy", file, folder / "whole")
-    taken = time.monotonic() - start
-    seen = set()
-    for _ in range(40):
-        out.write_bytes(b"old")
-        call = subprocess.Popen([SRCI, "public-copy", file, out, "--force"])
-        time.sleep(random.uniform(0, 1.5 * taken))
-        call.kill()
-        call.wait()
-        seen.add(out.read_bytes())
-        assert seen <= {b"old", copy}
-    # and what they left behind does not stand in the way
-    prints("", "public-copy", file, out, "--force")
-    assert out.read_bytes() == copy
-
-
-def test_a_reader_that_has_seen_enough(folder):
-    file, _ = large(folder)
-    call = subprocess.Popen([SRCI, "rows", file], stdout=subprocess.PIPE, stderr=subprocess.PIPE)
-    assert call.stdout.readline().startswith(b"tag\trow\t")
-    call.stdout.close()
-    assert call.stderr.read() == b"" and call.wait() == 3
-
-
-def main():
-    tests = [(name, test) for name, test in globals().items() if name.startswith("test_")]
-    for name, test in tests:
-        with tempfile.TemporaryDirectory() as folder:
-            os.chmod(folder, 0o755)
-            test(pathlib.Path(folder))
-        print(f"ok: {name[5:].replace('_', ' ')}", flush=True)
-
-
-with tempfile.TemporaryDirectory() as programs:
-    # a copy that any user can reach, who may not reach the tree
-    os.chmod(programs, 0o755)
-    SRCI = shutil.copy(sys.argv[1], programs)
-    main()
+run_tests(globals())

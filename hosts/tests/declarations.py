@@ -1,5 +1,10 @@
-"""Compares what is declared of the entry points in C, Rust and Python with crates/srci/src/lib.rt, and the names and
-numbers of refusals and tags with each other. Nothing else compares them: a wrong declaration links."""
+"""Compares with the Rattle source what the hosts declare: the entry points in C, Rust and Python, and the archive's;
+the limit and the width of a row; and the refusals and rows of hosts/tables, which spread.py writes where they are told.
+
+    declarations.py ARCHIVE
+
+Nothing else compares them: a wrong declaration links.
+"""
 import ctypes
 import pathlib
 import re
@@ -11,9 +16,11 @@ from srci import _calls
 
 ROOT = pathlib.Path(__file__).resolve().parents[2]
 ARCHIVE = sys.argv[1]
+sys.path.insert(0, str(ROOT / "hosts/tables"))
+import spread  # noqa: E402
 
-# What each parameter of the Rattle source is for a host: a name and the type in C, in Rust and in Python.
-LENGTH = ("size_t", "usize", ctypes.c_size_t)
+# What each parameter of the Rattle source is for a host: the type in C, in Rust and in Python.
+LENGTH = ("size_t ", "usize", ctypes.c_size_t)
 ADDRESS = ctypes.c_void_p
 PASSED = {
     "&[u8]": ("const uint8_t *", "*const u8", ADDRESS),
@@ -49,19 +56,12 @@ def same(what, found, expected):
     print(f"ok: {what}: {len(found)}")
 
 
-def enumerators(source, name):
-    body = re.search(rf"enum {name} {{(.*?)}};", source, re.S)[1]
-    return {word: int(number) for word, number in re.findall(r"SRCI_(\w+) = (\d+)", body)}
+def symbols(option, kind):
+    told = subprocess.run(["nm", option, ARCHIVE], capture_output=True, text=True, check=True).stdout
+    return sorted(re.findall(rf" {kind} (\w+)", told))
 
 
-def constant(name):
-    """A refusal's name as a constant is written."""
-    return name.replace("'", "").replace("-", "").replace(" ", "_").upper()
-
-
-def snake(variant):
-    return re.sub(r"(?<=[a-z0-9])(?=[A-Z])", "_", variant).upper()
-
+# ---- entry points
 
 rattle = functions(r'pub extern "C" fn (\w+)(?:<\'a>)?\(([^)]*)\) -> u32', text("crates/srci/src/lib.rt"))
 entries = {name: list(passed(parameters)) for name, parameters in rattle.items()}
@@ -69,43 +69,53 @@ assert len(entries) == 5
 
 header = re.sub(r"/\*.*?\*/", "", text("hosts/c/srci.h"), flags=re.S)
 in_c = {name: [c + name for name, (c, _, _) in words] for name, words in entries.items()}
-in_c = {name: [word.replace("size_t", "size_t ") for word in words] for name, words in in_c.items()}
 same("declared in C", functions(r"uint32_t (srci_\w+)\(([^)]*)\);", header), in_c)
 
 in_rust = {name: [f"{name}: {rust}" for name, (_, rust, _) in words] for name, words in entries.items()}
 same("declared in Rust", functions(r"pub fn (srci_\w+)\(([^)]*)\) -> u32;", text("hosts/rust/src/sys.rs")), in_rust)
 
-found = {name[1:]: entry.argtypes for name, entry in vars(_calls).items() if name.startswith("_srci_")}
-same("declared in Python", found, {name: [python for _, (_, _, python) in words] for name, words in entries.items()})
-assert all(getattr(_calls, f"_{name}").restype is ctypes.c_uint32 for name in entries)
+in_python = {name: [python for _, (_, _, python) in words] for name, words in entries.items()}
+declared = {name[1:]: entry for name, entry in vars(_calls).items() if name.startswith("_srci_")}
+for way in ("keeping", "releasing"):
+    found = {name: getattr(entry, way) for name, entry in declared.items()}
+    same(f"declared in Python, {way} the lock", {name: entry.argtypes for name, entry in found.items()}, in_python)
+    assert all(entry.__name__ == name and entry.restype is ctypes.c_uint32 for name, entry in found.items())
 
-symbols = subprocess.run(["nm", "--defined-only", "--extern-only", ARCHIVE], capture_output=True, text=True, check=True)
-same("in the archive", sorted(re.findall(r" T (\w+)", symbols.stdout)), sorted(entries))
+assert symbols("--defined-only", "[A-Z]") == symbols("--defined-only", "T"), "the archive has more than functions"
+same("in the archive", symbols("--defined-only", "T"), sorted(entries))
+same("what the archive needs", symbols("--undefined-only", "U"), ["memcpy", "memset"])
 
-symbols = subprocess.run(["nm", "--undefined-only", ARCHIVE], capture_output=True, text=True, check=True)
-same("what the archive needs", sorted(re.findall(r" U (\w+)", symbols.stdout)), ["memcpy", "memset"])
+# ---- numbers
 
 source = text("crates/layout/src/refusal.rt")
-refusals = {snake(name): int(number) for name, number in re.findall(r"Refusal::(\w+)(?:\(_\))? => (\d+),", source)}
-assert sorted(refusals.values()) == list(range(1, 20))
-same("refusals in C", enumerators(header, "srci_refusal"), refusals)
-source = text("hosts/rust/src/refusal.rs")
-found = re.findall(r"\(Refusal::(\w+)(?:\(0\))?, \"(.*?)\", \"", source)
-same("refusals in Rust", {snake(variant): number for number, (variant, _) in enumerate(found, 1)}, refusals)
-same("names of refusals in Rust", [name for _, name in found], list(srci.REFUSALS))
-found = {constant(name): number for number, name in enumerate(srci.REFUSALS, 1)}
-same("refusals in Python", found, refusals)
+declared = re.findall(r"^    (\w+)(\(u32\))?,", re.search(r"pub enum Refusal {(.*?)\n}", source, re.S)[1], re.M)
+numbers = dict(re.findall(r"Refusal::(\w+)(?:\(_\))? => (\d+),", source))
+expected = [(numbers[name], name, bool(second)) for name, second in declared]
+found = [(number, spread.variant(name), bool(second)) for number, name, _, second in spread.REFUSALS]
+same("refusals, and which have a second number", found, expected)
 
-tags = {f"TAG_{tag.name}": int(tag) for tag in srci.Tag}
-same("tags in C", enumerators(header, "srci_tag"), tags)
-source = text("hosts/rust/src/row.rs")
-found = re.findall(r"Row::([A-Z_]+) => \"", source)
-numbers = {name: int(number) for name, number in re.findall(r"pub const (\w+): u32 = (\d);", source)}
-same("tags in Rust", {f"TAG_{name}": numbers[name] for name in found}, tags)
+tags = [(spread.variant(row), tag) for tag, row, _ in spread.ROWS]
+source = text("crates/table/src/tag.rt")
+same("tags", tags, [tag for tag in re.findall(r"Tag::(\w+) => (\d+),", source) if tag[0] != "None"])
+same("tags read", tags, [(name, tag) for tag, name in re.findall(r"(\d+) => Tag::(\w+),", source)])
 
-limits = [
-    re.search(r"#define SRCI_LIMIT (\d+)", header)[1],
-    re.search(r"LIMIT: usize = ([\d_]+)", text("hosts/rust/src/lib.rs"))[1].replace("_", ""),
-    str(srci.LIMIT),
-]
-same("the limit in C, Rust and Python", limits, ["26214400"] * 3)
+made = re.findall(r"Row {\s+tag: (\d+),\s+side: 0,\s+((?:[a-e]: [^,]+,\s+){5})}", text("crates/table/src/row.rt"))
+# the first is what stands for no row
+used = {tag: [letter for letter, of in re.findall(r"([a-e]): ([^,]+),", told) if of != "0"] for tag, told in made[1:]}
+found = {tag: [letter for letter, number in zip("abcde", numbers) if number] for tag, _, numbers in spread.ROWS}
+same("which numbers a row has", found, used)
+
+
+def told(path, pattern):
+    return re.search(pattern, text(path))[1].replace("_", "")
+
+
+limit = told("crates/layout/src/lib.rt", r"PAYLOAD_LIMIT: usize = ([\d_]+);")
+in_c = told("hosts/c/srci.h", r"#define SRCI_LIMIT (\d+)")
+in_rust = told("hosts/rust/src/lib.rs", r"LIMIT: usize = ([\d_]+)")
+same("the limit in C, Rust and Python", [in_c, in_rust, str(srci.LIMIT)], [limit] * 3)
+
+width = told("crates/table/src/row.rt", r"WIDTH: usize = (\d+);")
+in_c = told("hosts/c/srci.h", r"#define SRCI_ROW_WIDTH (\d+)")
+in_rust = told("hosts/rust/src/row.rs", r"WIDTH: usize = (\d+)")
+same("the width of a row in C and Rust", [in_c, in_rust], [width] * 2)

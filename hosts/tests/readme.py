@@ -14,6 +14,7 @@ import sys
 import textwrap
 
 import srci
+from sections import names, payload
 
 ROOT = pathlib.Path(__file__).resolve().parents[2]
 BUILT = pathlib.Path(sys.argv[1]).resolve()
@@ -72,9 +73,10 @@ def expect_card(language, *words):
 
 expect_card("Python", sys.executable, "-c", example("python"))
 
-first, rest = example("c").split("\n", 1)
+includes, rest = re.match(r"((?:#include .*\n)+)((?:.*\n)*)", example("c")).groups()
 archive = BUILT / "lib/libsrci.a"
-program = built("readme_c.c", C % (first, indented(rest)), ["gcc", "-Wall", "-Wextra", "-Werror"], archive, f"-I{BUILT}/include")
+words = ["gcc", "-std=c99", "-Wall", "-Wextra", "-Werror"]
+program = built("readme_c.c", C % (includes, indented(rest)), words, archive, f"-I{BUILT}/include")
 expect_card("C", program)
 
 library = BUILT / "rust/libsrci.rlib"
@@ -92,12 +94,19 @@ facts = [" ".join(line.split()) for line in facts.splitlines()]
 assert shown[first : first + len(facts)] == facts, f"{facts}, not {shown[first:]}"
 print("ok: the facts in hosts/README.md")
 
-names, refused = examples("hosts/README.md", "python")
+told, shown = examples("hosts/README.md", "python")
 said = {"srci": srci, "payload": PAYLOAD.read_bytes()}
-exec(names, said)
-exec(refused, said)
-assert (said["names"], said["card"]) == (["sky.hlsl", "light.hlsli"], CARD)
+exec(told, said)
+exec(shown, said)
+assert (said["names"], said["pairs"]) == (("sky.hlsl", "light.hlsli"), [("E", "main"), ("T", "ps_6_0")])
+assert (said["left_out"], said["more"], said["card"]) == (0, 0, CARD)
 said["payload"] = b""
-exec(refused, said)
-assert said["card"] == "no card: ragged"
+exec(shown, said)
+assert said["card"].startswith("no card: refused 2, ragged: ")
 print("ok: the examples in hosts/README.md")
+
+# what README.md says of long cards
+sections = [names()] * 60
+assert len(payload(*sections)) == 1208 and len(srci.card(payload(*sections))) > 2000
+assert round(len(srci.card(payload(*[names()] * 65_535))) / 1e6, 1) == 2.3
+print("ok: the lengths of cards in README.md")

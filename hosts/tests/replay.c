@@ -1,5 +1,9 @@
 /* Replays the stored calls of crates/replay through srci.h. Standard input is its data/calls.txt, and what is printed
- * must be its stdout; crates/replay/src/main.rt says what a line of each is. */
+ * must be its stdout; crates/replay/src/main.rt says what a line of each is.
+ *
+ *   replay lent    lends every buffer where it stands
+ *   replay null    lends NULL for a buffer of length 0
+ */
 #define _DEFAULT_SOURCE
 #include <stdio.h>
 #include <stdlib.h>
@@ -11,6 +15,13 @@ enum { NUMBERS = 128, BYTES = 512, LONGEST = 4096 };
 
 static const uint32_t UNTOUCHED = 0xA5A5A5A5;
 static const uint8_t UNTOUCHED_BYTE = 0xA5;
+
+static int lends_null;
+
+static void *lend(void *buffer, size_t length)
+{
+    return lends_null && length == 0 ? NULL : buffer;
+}
 
 /* Bytes that hexadecimal digits spell. */
 static size_t decode(const char *digits, uint8_t *bytes)
@@ -77,31 +88,38 @@ static void replay(char *line)
     const char *job = word(&line);
     size_t lent = strtoul(word(&line), NULL, 10);
     size_t length = decode(word(&line), payload);
+    const uint8_t *from = lend(payload, length);
+    uint8_t *to = lend(output, lent);
     uint32_t second = UNTOUCHED;
     memset(output, UNTOUCHED_BYTE, sizeof output);
     if (strcmp(job, "read") == 0) {
         memset(rows, UNTOUCHED_BYTE, sizeof rows);
-        uint32_t number = srci_read(payload, length, rows, lent, &second);
+        uint32_t number = srci_read(from, length, lend(rows, lent), lent, &second);
         print_table(number, second, rows);
     } else if (strcmp(job, "write") == 0) {
         size_t edit_length = decode(word(&line), edit);
         size_t numbers = decode_numbers(word(&line), rows);
-        uint32_t number = srci_write(payload, length, edit, edit_length, rows, numbers, output, lent, &second);
+        uint32_t number = srci_write(from, length, lend(edit, edit_length), edit_length, lend(rows, numbers), numbers,
+                                     to, lent, &second);
         print_output(number, second, output);
     } else if (strcmp(job, "list") == 0) {
-        uint32_t number = srci_list(payload, length, output, lent, &second);
+        uint32_t number = srci_list(from, length, to, lent, &second);
         print_output(number, second, output);
     } else if (strcmp(job, "public_copy") == 0) {
-        uint32_t number = srci_public_copy(payload, length, output, lent, &second);
+        uint32_t number = srci_public_copy(from, length, to, lent, &second);
         print_output(number, second, output);
     } else if (strcmp(job, "card") == 0) {
-        uint32_t number = srci_card(payload, length, output, lent, &second);
+        uint32_t number = srci_card(from, length, to, lent, &second);
         print_output(number, second, output);
     }
 }
 
-int main(void)
+int main(int count, char **words)
 {
+    if (count != 2) {
+        return 2;
+    }
+    lends_null = strcmp(words[1], "null") == 0;
     char *line = NULL;
     size_t size = 0;
     ssize_t length;

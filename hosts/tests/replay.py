@@ -1,8 +1,9 @@
-"""Replays the stored calls of crates/replay through the Python package. Standard input is its data/calls.txt, and what is
-printed must be its stdout; crates/replay/src/main.rt says what a line of each is.
+"""Replays the stored calls of crates/replay through the Python package. Standard input is its data/calls.txt, and what
+is printed must be its stdout; crates/replay/src/main.rt says what a line of each is.
 
-With the argument `lent` each call is made on lent buffers. With `owned` it is made by the functions that allocate, and
-the answer is what a lent buffer of the stored length would get.
+With the argument `lent` each call is made on lent buffers, and keeps Python's lock, since they may change. With `owned`
+it is made by the functions that allocate, on bytes, and so releases the lock; the answer is what a lent buffer of the
+stored length would get.
 """
 import sys
 from array import array
@@ -13,6 +14,7 @@ from srci import _calls
 NUMBERS, BYTES = 128, 512
 UNTOUCHED, UNTOUCHED_BYTE = 0xA5A5A5A5, 0xA5
 WIDTH = 7
+JOBS = {"list": _calls.listing, "public_copy": _calls.public_copy, "card": _calls.card}
 
 
 def print_table(number, second, table):
@@ -26,13 +28,14 @@ def print_output(number, second, output):
 
 
 def replay_lent(job, lent, payload, edit, rows):
+    payload, edit = bytearray(payload), bytearray(edit)
     table, output = array("I", [UNTOUCHED]) * NUMBERS, bytearray([UNTOUCHED_BYTE]) * BYTES
     if job == "read":
         print_table(*_calls.read(payload, memoryview(table)[:lent]), table)
     elif job == "write":
         print_output(*_calls.write(payload, edit, array("I", rows), memoryview(output)[:lent]), output)
     else:
-        print_output(*getattr(_calls, job)(payload, memoryview(output)[:lent]), output)
+        print_output(*JOBS[job](payload, memoryview(output)[:lent]), output)
 
 
 def replay_owned(job, lent, payload, edit, rows):

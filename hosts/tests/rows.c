@@ -1,5 +1,5 @@
-/* Reads the payload of crates/show_card, on standard input, and looks at each of its rows by the names of srci.h; what is
- * in it is known from tests/programs/cases.py. */
+/* Reads the payload of crates/show_card, on standard input, and looks at each of its rows by the names of srci.h; what
+ * is in it is known from tests/programs/cases.py. */
 #undef NDEBUG
 #include <assert.h>
 #include <stdio.h>
@@ -18,8 +18,8 @@ static int has_text(uint32_t start, uint32_t length, const char *text)
 int main(void)
 {
     size_t length = fread(payload, 1, sizeof payload, stdin);
-    uint32_t none = 0, stored = 0;
-    assert(srci_read(payload, length, &none, 0, &stored) == SRCI_NO_ROWS && stored == 8);
+    uint32_t stored = 0;
+    assert(srci_read(payload, length, NULL, 0, &stored) == SRCI_NO_ROWS && stored == 8);
     assert(srci_read(payload, length, rows, sizeof rows / sizeof *rows, &stored) == 0 && stored == 8);
 
     const uint32_t *row = rows;

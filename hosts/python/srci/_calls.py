@@ -1,37 +1,61 @@
 """The entry points of libsrci.so, declared for Python here alone, and calls of them on lent buffers.
 
-Each function here returns the call's two numbers: 0 and the rows or bytes stored, or the refusal's number and its second
-number. A payload, an edit text, rows and an output are any objects with a buffer: bytes, bytearray, memoryview, mmap,
-array. They are lent as they are, and never copied.
+Each function here returns the call's two numbers: 0 and the rows or bytes stored, or the refusal's number and its
+second number. A payload, an edit text, rows and an output are any objects with a buffer: bytes, bytearray, memoryview,
+mmap, array. They are lent as they are, and never copied.
+
+Python's lock is released where payload and edit text are bytes, which nobody can change. So rows and an output must be
+the caller's own: nobody else may write to them during a call.
 """
+from __future__ import annotations
+
 import contextlib
 import ctypes
 import pathlib
+from collections.abc import Callable, Generator
+from typing import TYPE_CHECKING, Any
+
+if TYPE_CHECKING:
+    from typing_extensions import Buffer
 
 _PATH = pathlib.Path(__file__).with_name("libsrci.so")
 if not _PATH.exists():
     raise ImportError(f"{_PATH} is not there: hosts/build.sh builds the package, with it, in build/python")
 
-# PyDLL keeps Python's lock during a call, so that no other thread's Python code changes a bytearray that is lent.
-_LIBRARY = ctypes.PyDLL(str(_PATH))
+# The same library, by calls that keep Python's lock and by calls that release it.
+_KEEPING = ctypes.PyDLL(str(_PATH))
+_RELEASING = ctypes.CDLL(str(_PATH))
 
 # A slice passes as a pointer and a length in elements.
-_SLICE = [ctypes.c_void_p, ctypes.c_size_t]
-_SECOND = [ctypes.POINTER(ctypes.c_uint32)]
+_SLICE: list[Any] = [ctypes.c_void_p, ctypes.c_size_t]
+_SECOND: list[Any] = [ctypes.POINTER(ctypes.c_uint32)]
 
 
-def _declared(name, slices):
-    entry = getattr(_LIBRARY, name)
-    entry.argtypes = _SLICE * slices + _SECOND
-    entry.restype = ctypes.c_uint32
-    return entry
+class _Entry:
+    """An entry point, declared once for both ways to call it."""
+
+    def __init__(self, name: str, slices: int) -> None:
+        self.argtypes = _SLICE * slices + _SECOND
+        self.restype = ctypes.c_uint32
+        self.keeping = self._declared(_KEEPING, name)
+        self.releasing = self._declared(_RELEASING, name)
+
+    def _declared(self, library: ctypes.CDLL, name: str) -> Callable[..., int]:
+        entry = library[name]
+        entry.argtypes = self.argtypes
+        entry.restype = self.restype
+        return entry
+
+    def reading(self, *lent: Buffer) -> Callable[..., int]:
+        """How to call it on what is lent to be read. A subclass of bytes may have a buffer that changes."""
+        return self.releasing if all(type(owner) is bytes for owner in lent) else self.keeping
 
 
-_srci_read = _declared("srci_read", 2)  # payload, rows
-_srci_write = _declared("srci_write", 4)  # payload, edit, rows, output
-_srci_list = _declared("srci_list", 2)  # payload, output
-_srci_public_copy = _declared("srci_public_copy", 2)  # payload, output
-_srci_card = _declared("srci_card", 2)  # payload, output
+_srci_read = _Entry("srci_read", 2)  # payload, rows
+_srci_write = _Entry("srci_write", 4)  # payload, edit, rows, output
+_srci_list = _Entry("srci_list", 2)  # payload, output
+_srci_public_copy = _Entry("srci_public_copy", 2)  # payload, output
+_srci_card = _Entry("srci_card", 2)  # payload, output
 
 
 class _Buffer(ctypes.Structure):
@@ -53,18 +77,22 @@ class _Buffer(ctypes.Structure):
 
 
 _SIMPLE, _WRITABLE = 0, 1
-_get_buffer = ctypes.pythonapi.PyObject_GetBuffer
+# in brackets, for functions of one's own: those after a dot are one for the whole process, and others declare them too
+_get_buffer = ctypes.pythonapi["PyObject_GetBuffer"]
 _get_buffer.argtypes = [ctypes.py_object, ctypes.POINTER(_Buffer), ctypes.c_int]
-_release_buffer = ctypes.pythonapi.PyBuffer_Release
+_release_buffer = ctypes.pythonapi["PyBuffer_Release"]
 _release_buffer.argtypes = [ctypes.POINTER(_Buffer)]
 _release_buffer.restype = None
 
 # What a pointer leads to whose buffer has no bytes and may have no place either.
 _NOTHING = ctypes.c_uint32()
 
+# A place and a length, while an object's bytes are lent.
+_Lent = contextlib.AbstractContextManager[tuple[int, int]]
+
 
 @contextlib.contextmanager
-def _lent(owner, flags, size):
+def _lent(owner: Buffer, flags: int, size: int) -> Generator[tuple[int, int], None, None]:
     """The place of an object's bytes, and how many elements of a size they are; they stay there until it is left."""
     view = _Buffer()
     place = ctypes.byref(view)
@@ -75,15 +103,15 @@ def _lent(owner, flags, size):
         _release_buffer(place)  # does nothing to a view that was not got
 
 
-def _bytes(owner):
+def _bytes(owner: Buffer) -> _Lent:
     return _lent(owner, _SIMPLE, 1)
 
 
-def _output(owner):
+def _output(owner: Buffer) -> _Lent:
     return _lent(owner, _WRITABLE, 1)
 
 
-def _call(entry, *slices):
+def _call(entry: Callable[..., int], *slices: _Lent) -> tuple[int, int]:
     second = ctypes.c_uint32()
     with contextlib.ExitStack() as stack:
         words = [word for lent in slices for word in stack.enter_context(lent)]
@@ -91,23 +119,27 @@ def _call(entry, *slices):
     return number, second.value
 
 
-def read(payload, rows):
+def read(payload: Buffer, rows: Buffer) -> tuple[int, int]:
     """Reads a payload into an array of unsigned 32-bit numbers."""
-    return _call(_srci_read, _bytes(payload), _lent(rows, _WRITABLE, 4))
+    return _call(_srci_read.reading(payload), _bytes(payload), _lent(rows, _WRITABLE, 4))
 
 
-def write(payload, edit, rows, output):
+def write(payload: Buffer, edit: Buffer, rows: Buffer, output: Buffer) -> tuple[int, int]:
     """Writes the rows in such an array, whose texts lie in a payload and an edit text."""
-    return _call(_srci_write, _bytes(payload), _bytes(edit), _lent(rows, _SIMPLE, 4), _output(output))
+    slices = (_bytes(payload), _bytes(edit), _lent(rows, _SIMPLE, 4), _output(output))
+    return _call(_srci_write.reading(payload, edit), *slices)
 
 
-def list(payload, output):
-    return _call(_srci_list, _bytes(payload), _output(output))
+def listing(payload: Buffer, output: Buffer) -> tuple[int, int]:
+    """Stores the listing of a payload."""
+    return _call(_srci_list.reading(payload), _bytes(payload), _output(output))
 
 
-def public_copy(payload, output):
-    return _call(_srci_public_copy, _bytes(payload), _output(output))
+def public_copy(payload: Buffer, output: Buffer) -> tuple[int, int]:
+    """Stores the public copy of a payload."""
+    return _call(_srci_public_copy.reading(payload), _bytes(payload), _output(output))
 
 
-def card(payload, output):
-    return _call(_srci_card, _bytes(payload), _output(output))
+def card(payload: Buffer, output: Buffer) -> tuple[int, int]:
+    """Stores the card of a payload."""
+    return _call(_srci_card.reading(payload), _bytes(payload), _output(output))

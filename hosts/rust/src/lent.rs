@@ -15,6 +15,10 @@ fn answer(call: impl FnOnce(&mut u32) -> u32) -> Result<usize, Refusal> {
 }
 
 /// Reads a payload into a table of rows, seven numbers each. Answers how many rows were stored.
+///
+/// # Errors
+///
+/// Those of [`crate::read()`], then [`Refusal::NoRows`] with what is needed.
 pub fn read(payload: &[u8], rows: &mut [u32]) -> Result<usize, Refusal> {
     // SAFETY: each pointer and length is that of a slice.
     answer(|second| unsafe {
@@ -30,6 +34,10 @@ pub fn read(payload: &[u8], rows: &mut [u32]) -> Result<usize, Refusal> {
 
 /// Writes a table of rows, seven numbers each, whose texts lie in a payload and in an edit text. Answers how many bytes
 /// were stored.
+///
+/// # Errors
+///
+/// Those of [`crate::write()`], then [`Refusal::NoRoom`] with what is needed.
 pub fn write(
     payload: &[u8],
     edit: &[u8],
@@ -69,16 +77,28 @@ fn make(entry: Entry, payload: &[u8], output: &mut [u8]) -> Result<usize, Refusa
 }
 
 /// Lists a payload. Answers how many bytes were stored.
+///
+/// # Errors
+///
+/// Those of [`crate::list()`], then [`Refusal::NoRoom`] with what is needed.
 pub fn list(payload: &[u8], output: &mut [u8]) -> Result<usize, Refusal> {
     make(sys::srci_list, payload, output)
 }
 
 /// Makes the public copy of a payload. Answers how many bytes were stored.
+///
+/// # Errors
+///
+/// Those of [`crate::public_copy()`], then [`Refusal::NoRoom`] with what is needed.
 pub fn public_copy(payload: &[u8], output: &mut [u8]) -> Result<usize, Refusal> {
     make(sys::srci_public_copy, payload, output)
 }
 
 /// Makes the card of a payload. Answers how many bytes were stored.
+///
+/// # Errors
+///
+/// Those of [`crate::card()`], then [`Refusal::NoRoom`] with what is needed.
 pub fn card(payload: &[u8], output: &mut [u8]) -> Result<usize, Refusal> {
     make(sys::srci_card, payload, output)
 }

@@ -1,8 +1,13 @@
-//! SRCI payloads of compiled shaders: what lists source files and compiler arguments on an attachment card.
+//! SRCI payloads of compiled shaders: what an attachment card tells of source files and compiler arguments.
 //!
-//! The five jobs are done by `libsrci.a`, whose every function is proved: whatever bytes and rows come, each call ends,
-//! stays inside its buffers, and answers what its definition gives. This package finds the sizes that a job needs,
-//! allocates once, and puts names to the numbers. It is tested, and not itself proved.
+//! The five jobs [`read()`], [`write()`], [`list()`], [`public_copy()`] and [`card()`] are done by `libsrci.a`, whose
+//! every function is proved: whatever bytes and rows come, each call ends, stays inside its buffers, and answers what
+//! its definition gives.
+//! This package finds the sizes that a job needs, allocates once, and puts names to the numbers. It is tested, and not
+//! itself proved.
+//!
+//! Of what strangers post, ask [`names()`] and [`facts()`], which are bounded, rather than [`read()`], and show the
+//! [`first_lines()`] of a card.
 //!
 //! ```
 //! // a payload with the file `a` and the compiler argument `E`, `main`
@@ -23,26 +28,38 @@
 //! assert_eq!(srci::card(&renamed)?, card);
 //! # Ok::<(), srci::Refusal>(())
 //! ```
+mod facts;
+mod frame;
+mod lines;
 mod refusal;
 mod row;
+mod tables;
 
 pub mod lent;
 pub mod sys;
 
+pub use facts::{facts, names, Facts, Section};
+pub use frame::{frames, Frame, Names, Pairs};
+pub use lines::first_lines;
 pub use refusal::Refusal;
 pub use row::{Row, Rows};
+pub use tables::{ROWS, VERSION};
 
 /// Bytes of the longest payload.
 pub const LIMIT: usize = 26_214_400;
 
-/// Reads a payload into its rows. A payload has at most half as many rows as it has bytes, and a row takes 28 bytes: 367
-/// MB for the longest payload of empty pairs.
+/// Reads a payload into its rows. A payload has at most half as many rows as it has bytes, and a row takes 28 bytes:
+/// 367 MB for the longest payload of empty pairs.
 ///
 /// ```
 /// let nothing = [8, 0, 0, 0, 0, 0, 0, 0];
 /// assert_eq!(srci::read(&nothing), Ok(vec![]));
 /// assert_eq!(srci::read(&nothing[..7]), Err(srci::Refusal::Ragged));
 /// ```
+///
+/// # Errors
+///
+/// A refusal from 1 to 15, where the payload is not accepted.
 pub fn read(payload: &[u8]) -> Result<Rows, Refusal> {
     match lent::read(payload, &mut []) {
         Err(Refusal::NoRows(needed)) => {
@@ -66,6 +83,11 @@ pub fn read(payload: &[u8]) -> Result<Rows, Refusal> {
 /// assert_eq!(srci::write(b"", b"sky.hlsl", &[name]), Err(srci::Refusal::BadRow));
 /// # Ok::<(), srci::Refusal>(())
 /// ```
+///
+/// # Errors
+///
+/// The first of these: a row that breaks a rule (17), or a text of it that is not UTF-8 (11) or has a NUL inside (12);
+/// what passes a limit (18).
 pub fn write(payload: &[u8], edit: &[u8], rows: &[Row]) -> Result<Vec<u8>, Refusal> {
     made(|output| lent::write(payload, edit, row::numbers(rows), output))
 }
@@ -77,6 +99,10 @@ pub fn write(payload: &[u8], edit: &[u8], rows: &[Row]) -> Result<Vec<u8>, Refus
 /// assert_eq!(srci::list(&nothing)?, "// Shader Source Info: 0 section(s)\n");
 /// # Ok::<(), srci::Refusal>(())
 /// ```
+///
+/// # Errors
+///
+/// A refusal from 1 to 15, where the payload is not accepted.
 pub fn list(payload: &[u8]) -> Result<String, Refusal> {
     made(|output| lent::list(payload, output)).map(text)
 }
@@ -93,6 +119,10 @@ pub fn list(payload: &[u8]) -> Result<String, Refusal> {
 /// assert_eq!((contents.a, contents.d, contents.e), (0, 2, 0));
 /// # Ok::<(), srci::Refusal>(())
 /// ```
+///
+/// # Errors
+///
+/// A refusal from 1 to 15, where the payload is not accepted.
 pub fn public_copy(payload: &[u8]) -> Result<Vec<u8>, Refusal> {
     made(|output| lent::public_copy(payload, output))
 }
@@ -106,6 +136,10 @@ pub fn public_copy(payload: &[u8]) -> Result<Vec<u8>, Refusal> {
 /// assert_eq!((refused.number(), refused.name()), (2, "ragged"));
 /// # Ok::<(), srci::Refusal>(())
 /// ```
+///
+/// # Errors
+///
+/// A refusal from 1 to 15, where the payload is not accepted.
 pub fn card(payload: &[u8]) -> Result<String, Refusal> {
     made(|output| lent::card(payload, output)).map(text)
 }

@@ -1,16 +1,20 @@
 //! A row: seven numbers, by their names.
+use crate::tables::ROWS;
 
 /// A section of a payload, or an entry of the section before it.
 ///
+// [tables: rows]
 /// | tag | row | numbers |
 /// |---|---|---|
 /// | 0 | plain contents | `a` header field |
 /// | 1 | packed contents | `a` header field, `b` start, `c` length, `d` count, `e` uncompressed bytes |
-/// | 2, 3 | names; arguments | none |
+/// | 2 | names | none |
+/// | 3 | arguments | none |
 /// | 4 | unknown | `a` kind, `b` start, `c` length |
 /// | 5 | content | `a` start, `b` length |
 /// | 6 | name | `a` start, `b` length, `c` content size |
-/// | 7 | pair | `a`, `b` start and length of its name; `c`, `d` of its value |
+/// | 7 | pair | `a` name start, `b` name length, `c` value start, `d` value length |
+// [tables: end]
 ///
 /// Numbers that have no name are 0. A length leaves the terminator out.
 ///
@@ -49,6 +53,7 @@ impl Row {
     /// How many numbers a row is.
     pub const WIDTH: usize = 7;
 
+    // [tables: tags]
     pub const PLAIN_CONTENTS: u32 = 0;
     pub const PACKED_CONTENTS: u32 = 1;
     pub const NAMES: u32 = 2;
@@ -57,23 +62,14 @@ impl Row {
     pub const CONTENT: u32 = 5;
     pub const NAME: u32 = 6;
     pub const PAIR: u32 = 7;
+    // [tables: end]
 
     pub const PAYLOAD: u32 = 0;
     pub const EDIT: u32 = 1;
 
     /// What the tag says the row is.
     pub fn kind(&self) -> &'static str {
-        match self.tag {
-            Row::PLAIN_CONTENTS => "plain contents",
-            Row::PACKED_CONTENTS => "packed contents",
-            Row::NAMES => "names",
-            Row::ARGUMENTS => "arguments",
-            Row::UNKNOWN => "unknown",
-            Row::CONTENT => "content",
-            Row::NAME => "name",
-            Row::PAIR => "pair",
-            _ => "no row",
-        }
+        ROWS.get(self.tag as usize).map_or("no row", |row| row.0)
     }
 
     /// The text of a content, of a name, or of a pair's name. None for other rows, and where the text is not inside

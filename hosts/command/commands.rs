@@ -1,0 +1,204 @@
+//! The commands: their words, what they do, and what their help says.
+use crate::arguments::Call;
+use crate::failure::Failure;
+use crate::jobs;
+
+pub struct Command {
+    pub name: &'static str,
+    /// One that ends in `..` may be given several times.
+    pub operands: &'static [&'static str],
+    /// Each with what it does.
+    pub options: &'static [(&'static str, &'static str)],
+    pub run: fn(&Call) -> Result<(), Failure>,
+    pub does: &'static str,
+    /// Further lines of its help, and those that it has together with others.
+    pub more: &'static str,
+    pub shared: &'static [&'static Shared],
+}
+
+/// A part of the help of several commands, with its heading in the manual.
+pub struct Shared {
+    pub heading: &'static str,
+    pub text: &'static str,
+}
+
+pub const COMMANDS: [Command; 7] = [
+    Command {
+        name: "card",
+        operands: &["FILE.."],
+        options: &[NAMED],
+        run: jobs::card,
+        does: "print the card: the listing of the public copy",
+        more: CARD,
+        shared: &[&SEVERAL],
+    },
+    Command {
+        name: "facts",
+        operands: &["FILE.."],
+        options: &[JSON, NAMED],
+        run: jobs::facts,
+        does: "print all that a card may show: sections, counts, names, argument pairs",
+        more: FACTS,
+        shared: &[&SEVERAL, &FIELDS],
+    },
+    Command {
+        name: "list",
+        operands: &["FILE.."],
+        options: &[NAMED],
+        run: jobs::list,
+        does: "print the listing, which tells packed sizes and unknown sections too",
+        more: "",
+        shared: &[&SEVERAL],
+    },
+    Command {
+        name: "rows",
+        operands: &["FILE.."],
+        options: &[JSON, NAMED],
+        run: jobs::rows,
+        does: "print the rows, with their texts",
+        more: ROWS,
+        shared: &[&SEVERAL, &FIELDS],
+    },
+    Command {
+        name: "public-copy",
+        operands: &["FILE", "OUT"],
+        options: &[FORCE],
+        run: jobs::public_copy,
+        does: "write the public copy",
+        more: "",
+        shared: &[&OUT],
+    },
+    Command {
+        name: "rename",
+        operands: &["FILE", "OLD", "NEW", "OUT"],
+        options: &[FORCE, MERGE, EMPTY],
+        run: jobs::rename,
+        does: "rename the file OLD to NEW in every names section; all else stays",
+        more: RENAME,
+        shared: &[&OUT],
+    },
+    Command {
+        name: "check",
+        operands: &["FILE.."],
+        options: &[NAMED],
+        run: jobs::check,
+        does: "say 'accepted', or which refusal the payload gets and what it means",
+        more: "",
+        shared: &[&SEVERAL],
+    },
+];
+
+pub const JSON: (&str, &str) = ("--json", "print JSON");
+pub const NAMED: (&str, &str) = ("--named", "tell the file's name, of one file too");
+pub const FORCE: (&str, &str) = ("--force", "replace OUT, or write to a terminal");
+pub const MERGE: (&str, &str) = ("--merge", "rename to a name that another file has");
+pub const EMPTY: (&str, &str) = ("--empty", "rename to the empty name");
+
+const CARD: &str = "\
+The card has a line for each known section, with how many files or pairs it counts. It is made from
+the public facts alone, so that it tells no size of a source and no unknown section. It can have
+65,536 lines.
+";
+
+const FACTS: &str = "\
+The facts are taken from the public copy. After a header line, a line has five fields: the section's
+place from 0; the fact, which is 'plain contents', 'packed contents', 'names' or 'arguments' for a
+section, and 'name' or 'pair' for what is in it; the section's count; the name of a file or of an
+argument; the argument's value. A field that does not apply is empty.
+
+With --json an array of the sections, each {\"section\": .., \"count\": ..}. A section of names has an
+array \"names\" of texts besides, and one of arguments an array \"pairs\" of {\"name\": .., \"value\": ..}.
+";
+
+const ROWS: &str = "\
+After a header line, a line has ten fields: the row's tag and what it is called, its side, its numbers
+A to E, its text, and a pair's value. By what the row is called, the numbers are:
+{rows}
+
+With --json an array of the rows, whose fields have the header line's names in lower case; a row
+without a text, or without a value, has no such field.
+";
+
+const RENAME: &str = "\
+It is refused where no file is named OLD, where another file is named NEW already (--merge renames
+all the same), and where NEW is empty (--empty).
+";
+
+pub const SHARED: [&Shared; 3] = [&SEVERAL, &FIELDS, &OUT];
+
+const SEVERAL: Shared = Shared {
+    heading: "SEVERAL FILES",
+    text: "\
+Of several files each is told with its name, and with --named one is, too: in a line '==> NAME <=='
+above its card or listing, in a first field 'file' of a table, in JSON by an object for each file,
+{\"file\": .., \"facts\": ..} or {\"file\": .., \"rows\": ..}. One that is refused or cannot be read does not
+keep the others back; the exit status is the greatest of theirs.
+",
+};
+
+const FIELDS: Shared = Shared {
+    heading: "FIELDS",
+    text: "\
+Fields are parted by tabs. In a field a tab, a new line, a carriage return and a backslash are \\t,
+\\n, \\r and \\\\; other characters that do not show, or that change how others show, are \\u{HEX}. JSON
+escapes the same characters in its own way. On a terminal fields stand in columns, two spaces apart or
+more; there white space in a field is \\u{HEX} too, but for single spaces between other characters.
+",
+};
+
+const OUT: Shared = Shared {
+    heading: "OUT",
+    text: "\
+OUT is written under another name beside its place and then put there whole. A file that is there
+already is replaced only with --force; it is locked from before FILE is read, and a call that finds
+it locked waits for ten seconds. The new file keeps owner, group, permissions and ACL of the old one
+as far as the caller may set them; where they cannot be kept, others lose what these gave them.
+",
+};
+
+pub const GENERAL: &str =
+    "FILE may be -, for standard input, and OUT -, for standard output. Words after -- are no options.";
+
+pub const STATUSES: [(&str, &str); 4] = [
+    ("0", "done"),
+    (
+        "1",
+        "refused, with a line on standard error; or OLD is no name, or NEW is one already",
+    ),
+    ("2", "wrong usage"),
+    (
+        "3",
+        "a file cannot be read or written, or memory is lacking",
+    ),
+];
+
+impl Command {
+    pub fn usage(&self) -> String {
+        let mut usage = format!("srci {}", self.name);
+        for operand in self.operands {
+            usage = format!("{usage} {operand}");
+        }
+        for (option, _) in self.options {
+            usage = format!("{usage} [{option}]");
+        }
+        usage
+    }
+
+    /// Further lines of its help.
+    pub fn more(&self) -> String {
+        self.more.replace("{rows}\n", &numbers_of_rows())
+    }
+}
+
+/// What the numbers of each row are, a line for each that has some.
+fn numbers_of_rows() -> String {
+    let named = |(row, numbers): &(&str, [&str; 5])| {
+        let letters = ["A", "B", "C", "D", "E"].into_iter().zip(numbers);
+        let told = letters.filter(|(_, number)| !number.is_empty());
+        let told: Vec<String> = told
+            .map(|(letter, number)| format!("{letter} {number}"))
+            .collect();
+        (!told.is_empty()).then(|| format!("  {row:15}  {}\n", told.join(", ")))
+    };
+    srci::ROWS.iter().filter_map(named).collect()
+}

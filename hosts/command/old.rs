@@ -1,0 +1,86 @@
+//! A file that is replaced, and who may read the new one.
+//!
+//! Nobody but the caller can read the new file, at any moment, who could not read the old one. While it is written it
+//! is open to its owner at most. Owner and group are kept where the caller may set them, and the permission bits come
+//! last. Whoever was in the old group, or was the owner, may fall into another class of the new file, which must not
+//! have more bits than his own had:
+//!
+//! - where the group is not kept, the new group gets none, and others what others and the group both had;
+//! - where the owner is not kept, group and others get only what the owner had too;
+//! - where an ACL is not kept, or is not known, group and others get none.
+//!
+//! The bits for set-user-ID, set-group-ID and sticky are not kept.
+use crate::system;
+use std::ffi::CStr;
+use std::fs::{File, Permissions};
+use std::io;
+use std::os::unix::fs::{fchown, MetadataExt, PermissionsExt};
+
+const ACL: &CStr = c"system.posix_acl_access";
+/// What NFS's own ACLs allow only the server knows: they never count as kept.
+const NFS_ACL: &CStr = c"system.nfs4_acl";
+
+pub struct Old {
+    /// Open to be looked at.
+    pub file: File,
+    /// Open to be read, and locked; none where the caller cannot read it.
+    pub readable: Option<File>,
+}
+
+impl Old {
+    /// The permission bits of the new file while it is written.
+    pub fn private_bits(&self) -> io::Result<u32> {
+        Ok(self.file.metadata()?.mode() & 0o600)
+    }
+
+    /// Gives the new file to the old one's owner and group, each if the caller may, and to nobody else.
+    pub fn give_away(&self, new: &File) -> io::Result<()> {
+        let old = self.file.metadata()?;
+        // it may have come by the folder's default
+        system::remove_attribute(new, ACL)?;
+        let _ = fchown(new, None, Some(old.gid()));
+        let _ = fchown(new, Some(old.uid()), None);
+        Ok(())
+    }
+
+    /// Gives the new file, which is written, its permission bits.
+    pub fn share(&self, new: &File) -> io::Result<()> {
+        let (old, now) = (self.file.metadata()?, new.metadata()?);
+        let (same_owner, same_group) = (old.uid() == now.uid(), old.gid() == now.gid());
+        let same_acl = self.copy_acl(new, same_owner && same_group);
+        let bits = shared_bits(old.mode(), same_owner, same_group, same_acl);
+        new.set_permissions(Permissions::from_mode(bits))
+    }
+
+    /// Whether the new file has the old one's ACL, or both have none.
+    fn copy_acl(&self, new: &File, may_copy: bool) -> bool {
+        let Some(old) = &self.readable else {
+            return false;
+        };
+        if !matches!(system::attribute(old, NFS_ACL), Ok(None)) {
+            return false;
+        }
+        match system::attribute(old, ACL) {
+            Ok(Some(acl)) => may_copy && system::set_attribute(new, ACL, &acl).is_ok(),
+            Ok(None) => true,
+            Err(_) => false,
+        }
+    }
+}
+
+fn shared_bits(old: u32, same_owner: bool, same_group: bool, same_acl: bool) -> u32 {
+    let (user, mut group, mut others) = (old >> 6 & 7, old >> 3 & 7, old & 7);
+    if !same_group {
+        others &= group;
+        group = 0;
+    }
+    if !same_owner {
+        group &= user;
+        others &= user;
+    }
+    if !same_acl {
+        group = 0;
+        others = 0;
+    }
+    user << 6 | group << 3 | others
+}

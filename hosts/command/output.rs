@@ -1,0 +1,128 @@
+//! Where a result goes: to standard output, or to a file that holds the old bytes or the new ones whatever happens.
+use crate::failure::Failure;
+use crate::old::Old;
+use crate::place::Place;
+use crate::{files, system};
+use std::ffi::{CStr, CString, OsStr, OsString};
+use std::fs::File;
+use std::io::{self, ErrorKind, IsTerminal, Write};
+
+/// Where a result goes, found before what it is made from is read. A file that is to be replaced is locked until the
+/// result is there: of calls at once that rename in place, each reads what the one before has written.
+pub struct Output(To);
+
+enum To {
+    Standard,
+    File {
+        out: OsString,
+        replace: bool,
+        place: Place,
+        old: Option<Old>,
+    },
+}
+
+impl Output {
+    /// Finds where OUT leads. A file that is there is replaced only where that is asked for.
+    pub fn open(out: &OsStr, replace: bool) -> Result<Output, Failure> {
+        if files::is_stream(out, 1) {
+            let stdout = files::standard_output().map_err(files::not_printed)?;
+            if stdout.is_terminal() && !replace {
+                let why = "it is a terminal, and this is no text; --force writes it all the same";
+                return Err(files::not_printed(io::Error::other(why)));
+            }
+            return Ok(Output(To::Standard));
+        }
+        let place = Place::find(out).map_err(not_written(out))?;
+        let old = place.hold(out, replace).map_err(not_written(out))?;
+        let out = out.to_os_string();
+        Ok(Output(To::File {
+            out,
+            replace,
+            place,
+            old,
+        }))
+    }
+
+    pub fn write(self, bytes: &[u8]) -> Result<(), Failure> {
+        let To::File {
+            out,
+            replace,
+            place,
+            mut old,
+        } = self.0
+        else {
+            return files::print(|stdout| stdout.write_all(bytes));
+        };
+        loop {
+            let done = match &old {
+                Some(old) => write_over(&place, old, bytes),
+                None => write_new(&place, bytes),
+            };
+            match done {
+                // it came to be in the meantime
+                Err(error) if error.kind() == ErrorKind::AlreadyExists => {
+                    old = place.hold(&out, replace).map_err(not_written(&out))?;
+                }
+                done => return done.map_err(not_written(&out)),
+            }
+        }
+    }
+}
+
+fn not_written(out: &OsStr) -> impl Fn(io::Error) -> Failure + '_ {
+    move |error| Failure::File("write", format!("{out:?}"), error)
+}
+
+fn write_new(place: &Place, bytes: &[u8]) -> io::Result<()> {
+    let mut temporary = Temporary::create(&place.folder, 0o666)?;
+    temporary.fill(bytes)?;
+    // renaming would replace a file that came to be in the meantime; a second name does not
+    match system::link_at(&place.folder, &temporary.name, &place.name) {
+        Ok(()) => Ok(()),
+        Err(_) if place.look().is_ok() => Err(ErrorKind::AlreadyExists.into()),
+        // a file system that knows no second names
+        Err(_) => temporary.rename(&place.name),
+    }
+}
+
+fn write_over(place: &Place, old: &Old, bytes: &[u8]) -> io::Result<()> {
+    let mut temporary = Temporary::create(&place.folder, old.private_bits()?)?;
+    old.give_away(&temporary.file)?;
+    temporary.fill(bytes)?;
+    old.share(&temporary.file)?;
+    if !place.leads_to(&old.file)? {
+        return Err(io::Error::other("another file was put there meanwhile"));
+    }
+    temporary.rename(&place.name)
+}
+
+/// A new file beside its place. It is removed again if it is not put there, by a signal too.
+struct Temporary<'a> {
+    folder: &'a File,
+    name: CString,
+    file: File,
+}
+
+impl Temporary<'_> {
+    fn create(folder: &File, mode: u32) -> io::Result<Temporary<'_>> {
+        let (name, file) = system::create_temporary(folder, mode)?;
+        Ok(Temporary { folder, name, file })
+    }
+
+    fn fill(&mut self, bytes: &[u8]) -> io::Result<()> {
+        self.file.write_all(bytes)?;
+        self.file.sync_all()
+    }
+
+    fn rename(self, name: &CStr) -> io::Result<()> {
+        system::rename_at(self.folder, &self.name, name)?;
+        system::keep_temporary();
+        Ok(())
+    }
+}
+
+impl Drop for Temporary<'_> {
+    fn drop(&mut self) {
+        system::remove_temporary();
+    }
+}

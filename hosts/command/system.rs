@@ -1,0 +1,279 @@
+//! What Rust's own library has no words for: files by the folder that is open, attributes, locks, signals, and streams
+//! that were closed from the start. It is the only unsafe code of the command, behind safe functions, with the numbers
+//! of Linux on x86-64.
+use std::collections::hash_map::RandomState;
+use std::ffi::{c_char, c_int, c_uint, c_void, CStr, CString};
+use std::fs::File;
+use std::hash::{BuildHasher, Hasher};
+use std::io;
+use std::mem;
+use std::os::fd::{AsRawFd, FromRawFd, IntoRawFd};
+use std::ptr;
+use std::sync::atomic::{AtomicBool, AtomicI32, AtomicPtr, Ordering::SeqCst};
+
+extern "C" {
+    fn openat(folder: c_int, name: *const c_char, flags: c_int, ...) -> c_int;
+    fn readlinkat(folder: c_int, name: *const c_char, text: *mut u8, room: usize) -> isize;
+    fn linkat(
+        from: c_int,
+        old: *const c_char,
+        to: c_int,
+        new: *const c_char,
+        flags: c_int,
+    ) -> c_int;
+    fn renameat(from: c_int, old: *const c_char, to: c_int, new: *const c_char) -> c_int;
+    fn unlinkat(folder: c_int, name: *const c_char, flags: c_int) -> c_int;
+    fn fgetxattr(file: c_int, name: *const c_char, value: *mut c_void, room: usize) -> isize;
+    fn fsetxattr(
+        file: c_int,
+        name: *const c_char,
+        value: *const c_void,
+        size: usize,
+        flags: c_int,
+    ) -> c_int;
+    fn fremovexattr(file: c_int, name: *const c_char) -> c_int;
+    fn flock(file: c_int, operation: c_int) -> c_int;
+    fn fcntl(file: c_int, operation: c_int, ...) -> c_int;
+    fn geteuid() -> c_uint;
+    fn sigaction(signal: c_int, new: *const Action, old: *mut Action) -> c_int;
+    fn raise(signal: c_int) -> c_int;
+}
+
+fn done(answer: c_int) -> io::Result<()> {
+    match answer {
+        -1 => Err(io::Error::last_os_error()),
+        _ => Ok(()),
+    }
+}
+
+// ---- files, by the folder that is open
+
+/// To look at what has a name, and not into it: neither a pipe nor a device notices.
+pub const LOOK: c_int = 0o10_000_000;
+/// A folder, or a failure.
+pub const FOLDER: c_int = 0o200_000;
+/// A link is opened, or refused, and not followed.
+pub const NO_FOLLOW: c_int = 0o400_000;
+/// A pipe without a writer is not waited for.
+pub const NO_WAIT: c_int = 0o4_000;
+const CREATE_NEW: c_int = 0o100 | 0o200;
+const WRITE_ONLY: c_int = 0o1;
+const CLOSE_ON_EXEC: c_int = 0o2_000_000;
+/// Where there is no folder: the one that the command is run in.
+const HERE: c_int = -100;
+
+/// Opens what has a name in a folder, or in the one that the command is run in.
+pub fn open_at(folder: Option<&File>, name: &CStr, flags: c_int) -> io::Result<File> {
+    create_at(
+        folder.map_or(HERE, |folder| folder.as_raw_fd()),
+        name,
+        flags,
+        0,
+    )
+}
+
+fn create_at(folder: c_int, name: &CStr, flags: c_int, mode: u32) -> io::Result<File> {
+    // SAFETY: the name ends with a NUL, and a descriptor that is answered is nobody else's
+    unsafe {
+        let file = openat(folder, name.as_ptr(), flags | CLOSE_ON_EXEC, mode as c_uint);
+        done(file)?;
+        Ok(File::from_raw_fd(file))
+    }
+}
+
+/// Where a link leads that is open to be looked at.
+pub fn read_link(link: &File) -> io::Result<CString> {
+    let mut text = vec![0; 4096];
+    // SAFETY: the text has this much room, and the name ends with a NUL
+    let length = unsafe {
+        readlinkat(
+            link.as_raw_fd(),
+            c"".as_ptr(),
+            text.as_mut_ptr(),
+            text.len(),
+        )
+    };
+    text.truncate(usize::try_from(length).map_err(|_| io::Error::last_os_error())?);
+    Ok(CString::new(text)?)
+}
+
+/// Gives a file a second name in its folder, which nothing may have.
+pub fn link_at(folder: &File, old: &CStr, new: &CStr) -> io::Result<()> {
+    let folder = folder.as_raw_fd();
+    // SAFETY: the names end with a NUL
+    done(unsafe { linkat(folder, old.as_ptr(), folder, new.as_ptr(), 0) })
+}
+
+/// Gives a file another name in its folder; what had it is gone.
+pub fn rename_at(folder: &File, old: &CStr, new: &CStr) -> io::Result<()> {
+    let folder = folder.as_raw_fd();
+    // SAFETY: the names end with a NUL
+    done(unsafe { renameat(folder, old.as_ptr(), folder, new.as_ptr()) })
+}
+
+pub fn user() -> u32 {
+    // SAFETY: it cannot fail
+    unsafe { geteuid() }
+}
+
+// ---- attributes of an open file
+
+const NO_DATA: i32 = 61;
+const NOT_SUPPORTED: i32 = 95;
+/// Linux has no longer ones.
+const LONGEST_ATTRIBUTE: usize = 65_536;
+
+/// The answer, or none where the file has no such attribute, or its file system has none at all.
+fn if_there<T>(answer: io::Result<T>) -> io::Result<Option<T>> {
+    match answer {
+        Err(error) if matches!(error.raw_os_error(), Some(NO_DATA | NOT_SUPPORTED)) => Ok(None),
+        answer => answer.map(Some),
+    }
+}
+
+pub fn attribute(file: &File, name: &CStr) -> io::Result<Option<Vec<u8>>> {
+    let mut value = vec![0; LONGEST_ATTRIBUTE];
+    // SAFETY: the value has this much room, and the name ends with a NUL
+    let size = unsafe {
+        fgetxattr(
+            file.as_raw_fd(),
+            name.as_ptr(),
+            value.as_mut_ptr().cast(),
+            value.len(),
+        )
+    };
+    let size = if_there(usize::try_from(size).map_err(|_| io::Error::last_os_error()))?;
+    Ok(size.map(|size| {
+        value.truncate(size);
+        value
+    }))
+}
+
+pub fn set_attribute(file: &File, name: &CStr, value: &[u8]) -> io::Result<()> {
+    // SAFETY: the value has this length, and the name ends with a NUL
+    done(unsafe {
+        fsetxattr(
+            file.as_raw_fd(),
+            name.as_ptr(),
+            value.as_ptr().cast(),
+            value.len(),
+            0,
+        )
+    })
+}
+
+pub fn remove_attribute(file: &File, name: &CStr) -> io::Result<()> {
+    // SAFETY: the name ends with a NUL
+    let removed = done(unsafe { fremovexattr(file.as_raw_fd(), name.as_ptr()) });
+    if_there(removed).map(|_| ())
+}
+
+// ---- locks
+
+const EXCLUSIVE: c_int = 2;
+const DO_NOT_WAIT: c_int = 4;
+
+/// Locks a file until it is closed, and says whether nobody else holds it. Where there are no locks nobody does.
+pub fn lock(file: &File) -> bool {
+    // SAFETY: the file is open
+    let locked = done(unsafe { flock(file.as_raw_fd(), EXCLUSIVE | DO_NOT_WAIT) });
+    !locked.is_err_and(|error| error.kind() == io::ErrorKind::WouldBlock)
+}
+
+// ---- the temporary file, and the signals that end the command
+
+/// The folder and the name of the one temporary file, for a signal to remove it. Neither is ever closed or freed.
+static TEMPORARY_IN: AtomicI32 = AtomicI32::new(-1);
+static TEMPORARY: AtomicPtr<c_char> = AtomicPtr::new(ptr::null_mut());
+
+/// Creates a file to write to, under a name that nobody else has. Until `keep_temporary` a signal removes it.
+pub fn create_temporary(folder: &File, mode: u32) -> io::Result<(CString, File)> {
+    let random = RandomState::new().build_hasher().finish();
+    let name = CString::new(format!(".srci-{random:016x}.tmp"))?;
+    let folder = folder.try_clone()?.into_raw_fd();
+    // the name is known before the file is there, so that no signal can come between
+    TEMPORARY_IN.store(folder, SeqCst);
+    TEMPORARY.store(name.clone().into_raw(), SeqCst);
+    [HANG_UP, INTERRUPT, QUIT, TERMINATE]
+        .into_iter()
+        .try_for_each(remove_before)?;
+    let file = create_at(folder, &name, WRITE_ONLY | CREATE_NEW | NO_FOLLOW, mode)?;
+    Ok((name, file))
+}
+
+/// Removes the temporary file, if there is one. It allocates nothing, and can be called at any time.
+pub fn remove_temporary() {
+    let name = TEMPORARY.load(SeqCst);
+    if !name.is_null() {
+        // SAFETY: the name ends with a NUL and is never freed, nor is the folder ever closed
+        unsafe { unlinkat(TEMPORARY_IN.load(SeqCst), name, 0) };
+        // only now: a signal that comes before removes it, or finds it removed
+        keep_temporary();
+    }
+}
+
+/// The temporary file has its place, or is gone.
+pub fn keep_temporary() {
+    TEMPORARY.store(ptr::null_mut(), SeqCst);
+}
+
+const HANG_UP: c_int = 1;
+const INTERRUPT: c_int = 2;
+const QUIT: c_int = 3;
+const TERMINATE: c_int = 15;
+const IGNORED: usize = 1;
+const ONCE: c_int = -0x8000_0000;
+
+/// `struct sigaction`.
+#[repr(C)]
+struct Action {
+    handler: usize,
+    blocked: [u64; 16],
+    flags: c_int,
+    restorer: usize,
+}
+
+/// From now on this signal removes the temporary file before it ends the command, unless it is ignored.
+fn remove_before(signal: c_int) -> io::Result<()> {
+    // SAFETY: all zeros are an action, both are valid for the calls, and the handler makes none but safe calls
+    unsafe {
+        let mut action: Action = mem::zeroed();
+        done(sigaction(signal, ptr::null(), &mut action))?;
+        if action.handler == IGNORED {
+            return Ok(());
+        }
+        action = mem::zeroed();
+        action.handler = remove_and_end as extern "C" fn(c_int) as usize;
+        action.flags = ONCE;
+        done(sigaction(signal, &action, ptr::null_mut()))
+    }
+}
+
+extern "C" fn remove_and_end(signal: c_int) {
+    remove_temporary();
+    // the signal has its own way back, and goes it when this function is left
+    // SAFETY: it can be called in a handler
+    unsafe { raise(signal) };
+}
+
+// ---- standard streams
+
+/// Whether each was closed when the command was started. Rust opens /dev/null in its place before `main`.
+static CLOSED: [AtomicBool; 2] = [AtomicBool::new(false), AtomicBool::new(false)];
+const GET_FLAGS: c_int = 1;
+
+#[used]
+#[link_section = ".init_array"]
+static BEFORE_RUST: extern "C" fn() = look_at_streams;
+
+extern "C" fn look_at_streams() {
+    for (stream, closed) in CLOSED.iter().enumerate() {
+        // SAFETY: it only asks
+        closed.store(unsafe { fcntl(stream as c_int, GET_FLAGS) } == -1, SeqCst);
+    }
+}
+
+/// Whether standard input (0) or standard output (1) was closed when the command was started.
+pub fn was_closed(stream: usize) -> bool {
+    CLOSED[stream].load(SeqCst)
+}

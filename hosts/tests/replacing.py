@@ -1,0 +1,412 @@
+"""Tests of calls that put a file in place, which files.py runs: what others do at the same time, who can read the file,
+and what signals leave. Most look, or act, at each moment that a call has.
+"""
+import errno
+import fcntl
+import itertools
+import os
+import pathlib
+import resource
+import signal
+import stat
+import subprocess
+import tempfile
+import time
+
+from calling import NOBODY, fails, prints, start
+from cases import SAMPLE
+from moments import act_once, answers, call_of, can_step, has_open, step
+from people import ACL, DEFAULT_ACL, MEMBER, NAMED, OUTSIDER, OWNER, OWNER_IN_TEAM, ROOT, TEAM, USERS
+from people import access, acl, acl_of, has_acls, readers
+from sections import arguments, names, payload
+
+# of the sample
+COPY = payload(names((b"a", 1)), arguments((b"E", b"main")))
+RENAMED = payload(names((b"b", 5)), arguments((b"E", b"main")))
+# numbers of system calls on x86-64
+FLOCK, FCHMOD, FSETXATTR, FGETXATTR, FREMOVEXATTR, LINKAT = 73, 91, 190, 193, 199, 265
+# why a test is not run
+NOT_ROOT, NOT_TRACED = "this is not run as root", "processes cannot be traced here"
+
+
+def sample_and_home(folder):
+    """The sample in a file, and an empty folder."""
+    file, home = folder / "payload", folder / "home"
+    file.write_bytes(SAMPLE)
+    home.mkdir()
+    return file, home
+
+
+def put(path, data):
+    """Makes a file anew, or with None has none there."""
+    path.unlink(missing_ok=True)
+    if data is not None:
+        path.write_bytes(data)
+
+
+def temporaries(folder):
+    return [name for name in os.listdir(folder) if name.startswith(".srci-")]
+
+
+class Held:
+    """A file that is locked, and a call that waits for it until it gives up."""
+
+    def __init__(self):
+        self.folder = tempfile.TemporaryDirectory()
+        self.file = pathlib.Path(self.folder.name, "held")
+        self.file.write_bytes(SAMPLE)
+        self.open = open(self.file, "rb")
+        fcntl.flock(self.open, fcntl.LOCK_EX)
+        self.began = time.monotonic()
+        words = ["rename", self.file, "a", "b", self.file, "--force"]
+        self.call = start(*words, stdout=subprocess.PIPE, stderr=subprocess.PIPE)
+
+
+held = None
+
+
+def test_a_call_that_waits(folder):
+    # it gives up while the other tests are run
+    global held
+    held = Held()
+    file = folder / "payload"
+    file.write_bytes(SAMPLE)
+    with open(file, "rb") as other:
+        fcntl.flock(other, fcntl.LOCK_EX)
+        call = start("rename", file, "a", "b", file, "--force")
+        time.sleep(0.5)
+        assert call.poll() is None and file.read_bytes() == SAMPLE
+        # what does not replace the file does not wait
+        prints(COPY, "public-copy", file, "-")
+        fails(3, "--force", "public-copy", file, file)
+        fcntl.flock(other, fcntl.LOCK_UN)
+        assert call.wait() == 0
+    assert file.read_bytes() == RENAMED
+
+
+def test_renames_in_place_at_once(folder):
+    file, link = folder / "payload", folder / "link"
+    link.symlink_to("payload")
+    ways = itertools.cycle([(file, file), (file, link), (link, file)])
+    old, new = ([b"%s %d" % (word, place) for place in range(30)] for word in (b"old", b"new"))
+    file.write_bytes(payload(names(*[(name, 1) for name in old])))
+    calls = [start("rename", way[0], *name, way[1], "--force") for name, way in zip(zip(old, new), ways)]
+    assert [call.wait() for call in calls] == [0] * 30
+    assert file.read_bytes() == payload(names(*[(name, 1) for name in new])) and link.is_symlink()
+
+
+def test_a_file_that_is_replaced_before_it_is_locked(folder):
+    if not can_step():
+        return NOT_TRACED
+    file, new = folder / "payload", folder / "new"
+    file.write_bytes(SAMPLE)
+    new.write_bytes(payload(names((b"a", 7))))
+
+    def replace_before_lock(process):
+        if call_of(process) == FLOCK and new.exists():
+            new.replace(file)
+
+    assert step(replace_before_lock, "rename", file, "a", "b", file, "--force") == 0
+    assert file.read_bytes() == payload(names((b"b", 7)))
+
+
+def test_a_file_that_is_put_there_meanwhile(folder):
+    if not can_step():
+        return NOT_TRACED
+    file, home = sample_and_home(folder)
+    out, new = home / "out", home / "new"
+
+    def tries(old, act, *words):
+        """Whether a file is put there, and whether it stays, in calls during which that is tried, each at another
+        moment while there is a temporary file."""
+
+        def prepare():
+            new.write_bytes(b"new")
+            put(out, old)
+
+        for status in act_once(prepare, lambda _: temporaries(home), act, "public-copy", file, out, *words):
+            assert out.read_bytes() == (b"new" if status else COPY) and status in (0, 3)
+            yield not new.exists(), status == 3
+
+    # what replaces the old file stays, unless it comes between the last look and the renaming
+    tried = [*tries(b"old", lambda _: new.replace(out), "--force")]
+    assert tried == sorted(tried, reverse=True) and tried[0] == (True, True) and 0 < tried.count((True, False)) < 5
+    # what is there first stays
+    assert {*tries(None, lambda _: out.exists() or new.replace(out))} == {(True, True), (False, False)}
+
+
+def test_file_systems_that_know_less(folder):
+    if not can_step():
+        return NOT_TRACED
+    file, home = sample_and_home(folder)
+    out = home / "out"
+
+    def bits_after(call, *given):
+        """The new file's permission bits, or the exit status of a call that did not replace it."""
+        put(out, b"old")
+        out.chmod(0o664)
+        status = answers(call, given, "public-copy", file, out, "--force")
+        assert out.read_bytes() == (b"old" if status else COPY) and os.listdir(home) == ["out"]
+        return status or stat.S_IMODE(out.stat().st_mode)
+
+    # no second names
+    assert answers(LINKAT, [-errno.EPERM], "public-copy", file, out) == 0 and out.read_bytes() == COPY
+    assert os.listdir(home) == ["out"]
+    # no locks, no attributes
+    for error in (errno.ENOLCK, errno.EOPNOTSUPP):
+        assert bits_after(FLOCK, -error) == 0o664
+    assert bits_after(FGETXATTR, -errno.EOPNOTSUPP, -errno.EOPNOTSUPP) == 0o664
+    assert bits_after(FREMOVEXATTR, -errno.EOPNOTSUPP) == 0o664
+    # an ACL of NFS's own, and one that cannot be looked at
+    for given in ([0], [-errno.EIO], [None, -errno.EIO]):
+        assert bits_after(FGETXATTR, *given) == 0o600
+    # an ACL of the folder's that cannot be removed, and bits that cannot be set
+    assert bits_after(FREMOVEXATTR, -errno.EPERM) == bits_after(FCHMOD, -errno.EPERM) == 3
+
+
+def test_signals(folder):
+    if not can_step():
+        return NOT_TRACED
+    file, home = sample_and_home(folder)
+    out = home / "out"
+
+    def is_open(process):
+        return has_open(process, home)
+
+    def is_written(process):
+        return temporaries(home)
+
+    def signalled(number, way, old, counts):
+        """The exit statuses of calls that get a signal, each at another moment that counts, and what is there then."""
+
+        def before():
+            resource.setrlimit(resource.RLIMIT_CORE, (0, 0))
+            signal.signal(number, way)
+
+        def send(process):
+            os.kill(process, number)
+
+        words = ["public-copy", file, out, "--force"]
+        for status in act_once(lambda: put(out, old), counts, send, *words, preexec_fn=before):
+            assert not temporaries(home)
+            yield status, out.read_bytes() if out.exists() else None
+
+    for number, old in [(signal.SIGTERM, None), (signal.SIGINT, b"old")]:
+        # one that comes last finds the call ended
+        assert {*signalled(number, signal.SIG_DFL, old, is_open)} == {(-number, old), (-number, COPY), (0, COPY)}
+    for number in (signal.SIGHUP, signal.SIGQUIT):
+        assert {*signalled(number, signal.SIG_DFL, b"old", is_written)} == {(-number, b"old"), (-number, COPY)}
+    assert {*signalled(signal.SIGINT, signal.SIG_IGN, b"old", is_open)} == {(0, COPY)}
+
+
+def rewrite(file, home, caller, owner, group, bits, rights=None):
+    """Has a person replace a file of this owner, group, bits and ACL, and answers the new one's. Whoever else can read
+    it, or what is written beside it, at any moment, could read the old one."""
+    out = home / "out"
+    put(out, b"old")
+    os.chown(out, owner.user, group)
+    if acl_of(out):
+        os.removexattr(out, ACL)
+    out.chmod(bits)
+    if rights:
+        os.setxattr(out, ACL, rights)
+    could = readers(out)
+
+    def look(_):
+        for path in home.iterdir():
+            gained = {person for person in readers(path) - could if person.user != caller.user}
+            assert not gained, f"{caller} replaces {owner}, {group}, {bits:o} by {access(path)}: {gained} can read it"
+
+    assert step(look, "public-copy", file, out, "--force", **caller.options()) == 0
+    look(None)
+    assert os.listdir(home) == ["out"] and out.read_bytes() == COPY
+    return access(out)
+
+
+def test_who_can_read_what_replaces_a_file(folder):
+    if os.geteuid() != 0 or not can_step():
+        return NOT_ROOT if os.geteuid() != 0 else NOT_TRACED
+    file, home = sample_and_home(folder)
+    # a team's folder, in which a file is replaced by a member whose own group is another
+    os.chown(home, 0, TEAM)
+    home.chmod(0o775)
+    assert rewrite(file, home, MEMBER, OWNER, TEAM, 0o660) == (MEMBER.user, TEAM, 0o660, None)
+    home.chmod(0o777)
+    for caller, owner, group, bits, *new in [
+        (ROOT, OWNER, TEAM, 0o664, OWNER, TEAM, 0o664),
+        (ROOT, OWNER, TEAM, 0o040, OWNER, TEAM, 0o040),
+        (ROOT, OWNER, TEAM, 0o7775, OWNER, TEAM, 0o775),
+        (OWNER_IN_TEAM, OWNER, TEAM, 0o660, OWNER, TEAM, 0o660),
+        (OUTSIDER, OUTSIDER, USERS, 0o606, OUTSIDER, USERS, 0o606),
+        # the owner is not kept
+        (MEMBER, OWNER, TEAM, 0o664, MEMBER, TEAM, 0o664),
+        (MEMBER, OWNER, TEAM, 0o464, MEMBER, TEAM, 0o444),
+        (MEMBER, OWNER, TEAM, 0o046, MEMBER, TEAM, 0o000),
+        # the group is not kept
+        (OUTSIDER, OUTSIDER, TEAM, 0o664, OUTSIDER, USERS, 0o604),
+        (OUTSIDER, OUTSIDER, TEAM, 0o640, OUTSIDER, USERS, 0o600),
+        (OUTSIDER, OUTSIDER, TEAM, 0o604, OUTSIDER, USERS, 0o600),
+        # neither is
+        (OUTSIDER, OWNER, TEAM, 0o666, OUTSIDER, USERS, 0o606),
+        (OUTSIDER, OWNER, TEAM, 0o266, OUTSIDER, USERS, 0o202),
+        # the caller cannot read the old file, and so not its ACL
+        (MEMBER, OWNER, TEAM, 0o604, MEMBER, TEAM, 0o600),
+        (MEMBER, OWNER, TEAM, 0o626, MEMBER, TEAM, 0o600),
+    ]:
+        told = rewrite(file, home, caller, owner, group, bits)
+        assert told == (new[0].user, *new[1:], None), f"{caller}, {owner}, {group}, {bits:o}: {told}"
+    for user, group, others in itertools.product((0, 4), repeat=3):
+        for caller, owner in [(MEMBER, OWNER), (OUTSIDER, OWNER), (OUTSIDER, OUTSIDER)]:
+            rewrite(file, home, caller, owner, TEAM, user << 6 | group << 3 | others)
+
+
+def test_who_can_read_what_replaces_a_file_with_an_acl(folder):
+    if os.geteuid() != 0 or not can_step():
+        return NOT_ROOT if os.geteuid() != 0 else NOT_TRACED
+    if not has_acls(folder):
+        return "this file system has no ACLs"
+    file, home = sample_and_home(folder)
+    home.chmod(0o777)
+    out = home / "out"
+    for user, named, group, mask, others in [(6, 4, 4, 4, 0), (6, 0, 4, 4, 4), (6, 6, 0, 6, 0)]:
+        rights = acl(user, named, group, mask, others)
+        bits = user << 6 | mask << 3 | others
+        for caller in (ROOT, OWNER_IN_TEAM):
+            assert rewrite(file, home, caller, OWNER, TEAM, 0o600, rights) == (OWNER.user, TEAM, bits, rights)
+        for caller, owner, new in [(MEMBER, OWNER, TEAM), (OUTSIDER, OUTSIDER, USERS), (OUTSIDER, OWNER, USERS)]:
+            assert rewrite(file, home, caller, owner, TEAM, 0o600, rights) == (caller.user, new, 0o600, None)
+        os.setxattr(out, ACL, rights)
+        assert answers(FSETXATTR, [-errno.EIO], "public-copy", file, out, "--force") == 0
+        assert access(out)[2:] == (0o600, None)
+    # what the folder gives to new files it does not give to one that replaces another
+    os.setxattr(home, DEFAULT_ACL, acl(7, 7, 7, 7, 7))
+    for caller, owner in [(ROOT, OWNER), (MEMBER, MEMBER), (OWNER_IN_TEAM, OWNER)]:
+        for bits in (0o660, 0o600, 0o664):
+            assert rewrite(file, home, caller, owner, TEAM, bits) == (owner.user, TEAM, bits, None)
+    prints("", "public-copy", file, home / "new")
+    assert NAMED in readers(home / "new")
+
+
+def test_links_of_others(folder):
+    if os.geteuid() != 0:
+        return NOT_ROOT
+    file, home = sample_and_home(folder)
+    aim, link, to_link = folder / "aim", home / "link", folder / "to link"
+    to_link.symlink_to("home/link")
+    # 0o1777 is as /tmp: all may write, and nobody may remove what is another's
+    for link_owner, home_owner, bits, follows in [
+        (OWNER, ROOT, 0o1777, False),
+        (OWNER, MEMBER, 0o1777, False),
+        (OWNER, OWNER, 0o1777, True),
+        (ROOT, OWNER, 0o1777, True),
+        (OWNER, ROOT, 0o777, True),
+        (OWNER, ROOT, 0o1775, True),
+    ]:
+        os.chown(home, home_owner.user, home_owner.group)
+        home.chmod(bits)
+        put(link, None)
+        link.symlink_to("../aim")
+        os.lchown(link, link_owner.user, link_owner.group)
+        for out in (link, to_link):
+            put(aim, b"old")
+            if follows:
+                prints("", "public-copy", file, out, "--force")
+            else:
+                fails(3, "link of another user's", "public-copy", file, out, "--force")
+            assert aim.read_bytes() == (COPY if follows else b"old") and out.is_symlink() and link.is_symlink()
+
+
+class Victim:
+    """A file `out` in a folder of its own, that no result may replace."""
+
+    def __init__(self, folder):
+        self.folder, self.out = folder / "victim", folder / "victim" / "out"
+        self.folder.mkdir()
+        self.out.write_bytes(b"victim")
+        self.out.chmod(0o666)
+        self.before = self.out.stat()
+
+    def is_intact(self):
+        same = os.path.samestat(self.before, self.out.stat()) and self.out.read_bytes() == b"victim"
+        return same and os.listdir(self.folder) == ["out"]
+
+
+def test_links_that_are_planted(folder):
+    if not can_step():
+        return NOT_TRACED
+    victim, (file, home) = Victim(folder), sample_and_home(folder)
+    out, aside = home / "out", home / "aside"
+    found = False
+
+    def prepare(old):
+        nonlocal found
+        found = False
+        put(aside, None)
+        put(out, old)
+        if old:
+            out.chmod(0o600)
+
+    def has_found(process):
+        """Whether the call has, or had, the file open that OUT was at first."""
+        nonlocal found
+        found = found or has_open(process, out)
+        return found
+
+    def plant(_):
+        if out.exists():
+            out.rename(aside)
+        out.symlink_to(victim.out)
+        if os.geteuid() == 0:
+            os.lchown(out, NOBODY, NOBODY)
+
+    def tries(old, counts):
+        for status in act_once(lambda: prepare(old), counts, plant, "public-copy", file, out, "--force"):
+            assert victim.is_intact() and not temporaries(home)
+            files = [path for path in home.iterdir() if not path.is_symlink()]
+            there = [path.read_bytes() for path in files]
+            assert COPY in there if status == 0 else there == ([old] if old else [])
+            # nor are the victim's permission bits taken
+            assert not old or all(stat.S_IMODE(path.stat().st_mode) == 0o600 for path in files)
+            yield status
+
+    assert {*tries(b"old", has_found)} == {0, 3}
+    # as in /tmp: a stranger's is not followed either where it is there before OUT is opened, or where OUT is new
+    if os.geteuid() == 0:
+        home.chmod(0o1777)
+        for old in (b"old", None):
+            assert {*tries(old, lambda process: has_open(process, home))} == {0, 3}
+    else:
+        print(f"not tested: links that strangers plant, since {NOT_ROOT}")
+
+
+def test_a_folder_that_is_turned_elsewhere(folder):
+    if not can_step():
+        return NOT_TRACED
+    victim, (file, home), aside = Victim(folder), sample_and_home(folder), folder / "aside"
+
+    def prepare():
+        if aside.exists():
+            home.unlink()
+            aside.rename(home)
+        put(home / "out", b"old")
+
+    def turn(_):
+        home.rename(aside)
+        home.symlink_to(victim.folder)
+
+    seen = set()
+    words = ["public-copy", file, home / "out", "--force"]
+    for status in act_once(prepare, lambda process: has_open(process, home), turn, *words):
+        assert victim.is_intact() and not temporaries(aside)
+        assert (aside / "out").read_bytes() == (b"old" if status else COPY)
+        seen.add(status)
+    assert seen == {0, 3}
+
+
+def test_a_call_that_has_waited(folder):
+    out, err = held.call.communicate(timeout=60)
+    assert held.call.returncode == 3 and out == b"" and b"another call is replacing it" in err
+    assert time.monotonic() - held.began >= 10 and held.file.read_bytes() == SAMPLE
+    assert os.listdir(held.folder.name) == ["held"]
+    held.open.close()
+    held.folder.cleanup()
