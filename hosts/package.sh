@@ -9,16 +9,22 @@
 #
 # FOLDER is build/package where none is named. From the same files it makes the same bytes.
 set -euo pipefail
+fail() {
+    echo "hosts/package.sh: $1" >&2
+    exit 2
+}
+
 # the lines above, for who asks
 case ${1:-} in
 -h | --help) sed -n '2,/^[^#]/s/^#$\|^# //p' "$0" && exit ;;
--*) echo "hosts/package.sh: FOLDER is no option" >&2 && exit 2 ;;
+-*) fail "FOLDER is no option" ;;
 esac
+[ $# -le 1 ] || fail "it takes one FOLDER"
+python3 --version > /dev/null 2>&1 || fail "it needs python3"
 unset CDPATH
 root=$(cd "$(dirname "$0")/.." && pwd)
 folder=${1:-$root/build/package}
-mkdir -p "$folder"
-folder=$(cd "$folder" && pwd)
+case $folder in /*) ;; *) folder=$PWD/$folder ;; esac
 cd "$root"
 built=build
 version=$(< hosts/tables/version.txt)
@@ -30,7 +36,7 @@ trap 'rm -rf "$tree"' EXIT
 # Puts a file at its place in the archive.
 put() {
     local from=$1 to=$tree/$name/$2
-    [ -e "$from" ] || { echo "hosts/package.sh: there is no $from, which hosts/build.sh builds" >&2; exit 2; }
+    [ -e "$from" ] || fail "there is no $from, which hosts/build.sh builds"
     mkdir -p "$(dirname "$to")"
     cp -P "$from" "$to"
 }
@@ -45,6 +51,15 @@ put "$built/share/man/man1/srci.1" share/man/man1/srci.1
 put "$built/share/bash-completion/completions/srci" share/bash-completion/completions/srci
 put NOTICE share/doc/srci/NOTICE
 put hosts/package.md share/doc/srci/README.md
+# of what is linked into the command
+rust=$(rustc --print sysroot 2> /dev/null || true)/share/doc/rust
+for licence in "$rust"/{COPYRIGHT-library.html,licenses/{MIT,Apache-2.0}.txt} /usr/share/common-licenses/LGPL-2.1; do
+    if [ -e "$licence" ]; then
+        put "$licence" "share/doc/srci/licences/$(basename "$licence")"
+    else
+        echo "the archive lacks a licence that this system has no text of: $(basename "$licence")"
+    fi
+done
 
 mkdir -p "$tree/$name/lib/pkgconfig"
 cat > "$tree/$name/lib/pkgconfig/srci.pc" << END
@@ -59,6 +74,7 @@ Cflags: -I\${includedir}
 Libs: -L\${libdir} -lsrci
 END
 
+mkdir -p "$folder"
 # 1980 is where the times of a wheel begin
 tar -C "$tree" --format=ustar --sort=name --mtime=@315532800 --owner=0 --group=0 --numeric-owner --mode=u=rwX,go=rX \
     -cf - "$name" | gzip -9n > "$folder/$name.tar.gz"

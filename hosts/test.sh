@@ -28,8 +28,10 @@ python3 hosts/tests/declarations.py "$out/lib/libsrci.a"
 title "C"
 strict="-O2 -Wall -Wextra -Wpedantic -Wconversion -Wshadow -Werror -I$out/include"
 c() { gcc -std=c99 $strict "$@"; }
-c -fsyntax-only -x c "$out/include/srci.h"
-echo "ok: the header as C99"
+for standard in c89 c99 c17; do
+    gcc -std="$standard" $strict -fsyntax-only -x c "$out/include/srci.h"
+    echo "ok: the header as $standard"
+done
 for standard in c++11 c++20; do
     if g++ -std="$standard" -fsyntax-only -x c++ /dev/null 2> /dev/null; then
         g++ -std="$standard" $strict -fsyntax-only -x c++ "$out/include/srci.h"
@@ -60,6 +62,10 @@ diff <("$out/tests/refusals") <(cat hosts/tables/version.txt hosts/tables/versio
 echo "ok: the version, and the text of each refusal"
 c hosts/c/show_card.c "$out/lib/libsrci.a" -o "$out/tests/show_card"
 "$out/tests/show_card" crates/show_card/stdin | cmp - crates/show_card/stdout
+python3 -c '
+import sections as of, sys
+sys.stdout.buffer.write(of.payload(*[of.names()] * 65535))' > "$out/tests/longest_card"
+"$out/tests/show_card" "$out/tests/longest_card" | cmp - <("$out/bin/srci" card "$out/tests/longest_card")
 diff <("$out/tests/show_card" /dev/null 2>&1 || echo "status $?") \
     <(refusals | sed -n 's/^2\t\(.*\)\t\(.*\)/refused 2, \1: \2/p'; echo "status 1")
 echo "ok: the example"
@@ -71,7 +77,7 @@ for way in lent owned; do
     echo "ok: $(wc -l < "$calls") stored calls, $way"
 done
 rust hosts/tests/facts.rs -o "$out/tests/facts_rust"
-"$out/tests/facts_rust"
+(ulimit -v 150000 && "$out/tests/facts_rust")
 echo "ok: facts, names and first lines, under every bound"
 rustdoc --test --edition 2021 --crate-name srci -L "native=$out/lib" --extern "srci=$out/rust/libsrci.rlib" \
     hosts/rust/src/lib.rs

@@ -23,6 +23,13 @@
 extern "C" {
 #endif
 
+/* C89 has no word for it. */
+#if defined __cplusplus || (defined __STDC_VERSION__ && __STDC_VERSION__ >= 199901L)
+#define SRCI_INLINE static inline
+#else
+#define SRCI_INLINE static __inline
+#endif
+
 /* [tables: version] */
 #define SRCI_VERSION "0.2.0"
 #define SRCI_VERSION_MAJOR 0
@@ -81,7 +88,7 @@ enum srci_refusal {
 
 /* What a refusal is called, and a sentence that says what it means; NULL for a number that is none.
  * [tables: names of refusals] */
-static inline const char *srci_refusal_name(uint32_t number)
+SRCI_INLINE const char *srci_refusal_name(uint32_t number)
 {
     static const char *const texts[] = {
         "oversize",
@@ -109,7 +116,7 @@ static inline const char *srci_refusal_name(uint32_t number)
 /* [tables: end] */
 
 /* [tables: meanings of refusals] */
-static inline const char *srci_refusal_meaning(uint32_t number)
+SRCI_INLINE const char *srci_refusal_meaning(uint32_t number)
 {
     static const char *const texts[] = {
         "The payload has more than 26,214,400 bytes.",

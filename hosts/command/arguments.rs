@@ -133,7 +133,10 @@ impl Command {
     fn option(&self, word: &OsStr) -> Result<&'static str, Failure> {
         let mut options = self.options.iter().map(|(option, _)| *option);
         options.find(|option| word == *option).ok_or_else(|| {
-            let hint = meant(word, self.options.iter().map(|(option, _)| *option));
+            let hint = match meant(word, self.options.iter().map(|(option, _)| *option)) {
+                hint if hint.is_empty() => "; a word after -- is no option".to_string(),
+                hint => hint,
+            };
             self.wrong(format!("{} has no option {word:?}{hint}", self.name))
         })
     }

@@ -130,7 +130,7 @@ const SEVERAL: Shared = Shared {
     heading: "SEVERAL FILES",
     text: "\
 Of several files each is told with its name, and with --named one is, too: in a line '==> NAME <=='
-above its card or listing, in a first field 'file' of a table, in JSON by an object for each file,
+above its card or listing, in a first field 'file' of a table, in JSON by a line for each file,
 {\"file\": .., \"facts\": ..} or {\"file\": .., \"rows\": ..}. One that is refused or cannot be read does not
 keep the others back; the exit status is the greatest of theirs.
 ",
@@ -149,10 +149,11 @@ more; there white space in a field is \\u{HEX} too, but for single spaces betwee
 const OUT: Shared = Shared {
     heading: "OUT",
     text: "\
-OUT is written under another name beside its place and then put there whole. A file that is there
-already is replaced only with --force; it is locked from before FILE is read, and a call that finds
-it locked waits for ten seconds. The new file keeps owner, group, permissions and ACL of the old one
-as far as the caller may set them; where they cannot be kept, others lose what these gave them.
+OUT is written under another name beside its place, .srci-*.tmp, and then put there whole. A file
+that is there already is replaced only with --force, and where OUT is a link, what it leads to. It is
+locked (as by flock) while FILE is read and it is replaced; a call that finds it locked waits up to
+ten seconds, and then ends with 3. The new file keeps owner, group, permissions and ACL of the old
+one as far as the caller may set them; where they cannot be kept, others lose what these gave them.
 ",
 };
 

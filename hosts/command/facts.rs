@@ -1,6 +1,6 @@
 //! All that a card may show, printed.
 use crate::table::Table;
-use crate::text::{Field, Json};
+use crate::text::{json_array, Field, Json};
 use srci::{Facts, Row};
 use std::fmt::Display;
 use std::io::{Result, Write};
@@ -31,43 +31,26 @@ pub fn table(facts: &Facts, first: &[&dyn Display], table: &mut Table) -> Result
     Ok(())
 }
 
-pub fn json(facts: &Facts, out: &mut dyn Write) -> Result<()> {
-    write!(out, "[")?;
-    for (place, section) in facts.sections().enumerate() {
-        let before = if place == 0 { "\n" } else { ",\n" };
+/// An array of the sections, which are parted by line ends too where there are to be any.
+pub fn json(facts: &Facts, line_end: &str, out: &mut dyn Write) -> Result<()> {
+    json_array(out, line_end, facts.sections(), |out, section| {
         let (kind, count) = (section.kind(), section.count);
-        write!(out, "{before}{{\"section\":\"{kind}\",\"count\":{count}")?;
+        write!(out, "{{\"section\":\"{kind}\",\"count\":{count}")?;
         match section.tag {
             Row::NAMES => {
                 write!(out, ",\"names\":")?;
-                array(out, section.names, |out, name| {
+                json_array(out, "", section.names, |out, name| {
                     write!(out, "{}", Json(name))
                 })?;
             }
             Row::ARGUMENTS => {
                 write!(out, ",\"pairs\":")?;
-                array(out, section.pairs, |out, (name, value)| {
+                json_array(out, "", section.pairs, |out, (name, value)| {
                     write!(out, "{{\"name\":{},\"value\":{}}}", Json(name), Json(value))
                 })?;
             }
             _ => {}
         }
-        write!(out, "}}")?;
-    }
-    write!(out, "\n]")
-}
-
-fn array<T>(
-    out: &mut dyn Write,
-    all: impl Iterator<Item = T>,
-    print: impl Fn(&mut dyn Write, T) -> Result<()>,
-) -> Result<()> {
-    write!(out, "[")?;
-    for (place, one) in all.enumerate() {
-        if place > 0 {
-            write!(out, ",")?;
-        }
-        print(out, one)?;
-    }
-    write!(out, "]")
+        write!(out, "}}")
+    })
 }

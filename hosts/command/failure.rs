@@ -17,8 +17,10 @@ pub enum Failure {
     NameTaken(String, OsString),
     /// What is wrong, and the usage.
     Usage(String, String),
-    /// `read` or `write`, which file, and why not.
-    File(&'static str, String, io::Error),
+    /// Which file cannot be read, and why.
+    NotRead(String, io::Error),
+    /// Which file cannot be written, and why.
+    NotWritten(String, io::Error),
     /// Of several files, which were told already: the greatest status.
     Told(u8),
 }
@@ -29,14 +31,9 @@ impl Failure {
             Failure::Refused(..) | Failure::RefusedAt(..) | Failure::Container(..) => 1,
             Failure::NoSuchName(..) | Failure::NameTaken(..) => 1,
             Failure::Usage(..) => 2,
-            Failure::File(..) => 3,
+            Failure::NotRead(..) | Failure::NotWritten(..) => 3,
             Failure::Told(status) => *status,
         }
-    }
-
-    /// Whether what is printed cannot be.
-    pub fn is_of_output(&self) -> bool {
-        matches!(self, Failure::File("write", ..))
     }
 
     /// Says it on standard error. Where that cannot be written the exit status tells enough.
@@ -60,10 +57,11 @@ impl Failure {
                 "srci: {what}: a file is named {name:?} already; --merge renames all the same"
             ),
             Failure::Usage(what, usage) => write!(out, "srci: {what}\n{usage}"),
+            Failure::NotRead(what, error) => writeln!(out, "srci: cannot read {what}: {error}"),
             // whoever reads what is printed has seen enough, as `head` has
-            Failure::File(_, _, error) if error.kind() == io::ErrorKind::BrokenPipe => Ok(()),
-            Failure::File(doing, what, error) => {
-                writeln!(out, "srci: cannot {doing} {what}: {error}")
+            Failure::NotWritten(_, error) if error.kind() == io::ErrorKind::BrokenPipe => Ok(()),
+            Failure::NotWritten(what, error) => {
+                writeln!(out, "srci: cannot write {what}: {error}")
             }
             Failure::Told(_) => Ok(()),
         };

@@ -2,7 +2,7 @@
 use crate::failure::Failure;
 use crate::system;
 use std::ffi::OsStr;
-use std::fs::File;
+use std::fs::{self, File};
 use std::io::{self, BufWriter, IsTerminal, Read, Write};
 use std::os::fd::AsFd;
 
@@ -16,8 +16,13 @@ pub fn read(file: &OsStr) -> Result<Vec<u8>, Failure> {
     };
     opened
         .and_then(|file| file.take(srci::LIMIT as u64 + 1).read_to_end(&mut bytes))
-        .map_err(|error| Failure::File("read", named(file), error))?;
+        .map_err(|error| Failure::NotRead(named(file), error))?;
     Ok(bytes)
+}
+
+/// Whether a word names a regular file, which is read without waiting for anybody.
+pub fn is_file(word: &OsStr) -> bool {
+    !is_stream(word, 0) && fs::metadata(word).is_ok_and(|there| there.is_file())
 }
 
 /// A file that is read, as messages name it.
@@ -49,7 +54,7 @@ pub fn standard_output() -> io::Result<File> {
 }
 
 pub fn not_printed(error: io::Error) -> Failure {
-    Failure::File("write", "standard output".to_string(), error)
+    Failure::NotWritten("standard output".to_string(), error)
 }
 
 /// Whether a word stands for standard input (0) or standard output (1). The system's names for them cannot be opened

@@ -36,7 +36,7 @@ pub fn facts(call: &Call) -> Result<(), Failure> {
     each(call, |payload| {
         let facts = payload.by(|payload| srci::facts(payload, usize::MAX))?;
         if call.has(JSON) {
-            return payload.print_json("facts", |out| facts::json(&facts, out));
+            return payload.print_json("facts", |line_end, out| facts::json(&facts, line_end, out));
         }
         payload.print_table(&mut columns, |first, table| {
             facts::table(&facts, first, table)
@@ -49,7 +49,9 @@ pub fn rows(call: &Call) -> Result<(), Failure> {
     each(call, |payload| {
         let rows = payload.by(srci::read)?;
         if call.has(JSON) {
-            return payload.print_json("rows", |out| rows::json(&payload.bytes, &rows, out));
+            return payload.print_json("rows", |line_end, out| {
+                rows::json(&payload.bytes, &rows, line_end, out)
+            });
         }
         payload.print_table(&mut columns, |first, table| {
             rows::table(&payload.bytes, &rows, first, table)
@@ -68,9 +70,8 @@ pub fn check(call: &Call) -> Result<(), Failure> {
 }
 
 pub fn public_copy(call: &Call) -> Result<(), Failure> {
-    // looked at, and locked, before FILE is read, which can be the same file
-    let out = Output::open(&call.operands[1], call.has(FORCE))?;
-    let copy = Payload::read(&call.operands[0])?.by(srci::public_copy)?;
+    let (payload, out) = read_and_open(call, &call.operands[0], &call.operands[1])?;
+    let copy = payload.by(srci::public_copy)?;
     out.write(&copy)
 }
 
@@ -80,8 +81,7 @@ pub fn rename(call: &Call) -> Result<(), Failure> {
         let what = "NEW is empty; --empty renames all the same".to_string();
         return Err(call.command.wrong(what));
     }
-    let out = Output::open(out, call.has(FORCE))?;
-    let payload = Payload::read(file)?;
+    let (payload, out) = read_and_open(call, file, out)?;
     payload.by(parts::check)?;
     let named = files::named(file);
     let Some(old) = old.to_str().filter(|old| payload.has_file(old)) else {
@@ -95,6 +95,22 @@ pub fn rename(call: &Call) -> Result<(), Failure> {
         .and_then(|renamed| parts::check(&renamed).map(|()| renamed))
         .map_err(|refusal| Failure::Refused(format!("{named}, renamed"), refusal))?;
     out.write(&renamed)
+}
+
+/// Reads FILE and finds OUT. A file is read after OUT is locked, since both can be one. A stream is read before, since
+/// others would wait for the lock as long as nothing comes.
+fn read_and_open<'a>(
+    call: &Call,
+    file: &'a OsStr,
+    out: &OsStr,
+) -> Result<(Payload<'a>, Output), Failure> {
+    let read = || Payload::read(file, false);
+    let open = || Output::open(out, call.has(FORCE));
+    if files::is_file(file) {
+        open().and_then(|out| Ok((read()?, out)))
+    } else {
+        read().and_then(|payload| Ok((payload, open()?)))
+    }
 }
 
 /// The payload in a FILE.
@@ -111,18 +127,15 @@ fn each(call: &Call, mut job: impl FnMut(Payload) -> Result<(), Failure>) -> Res
     let is_named = are_several || call.has(NAMED);
     let mut status = 0;
     for file in &call.operands {
-        let read = Payload::read(file);
-        match read.and_then(|payload| {
-            job(Payload {
-                is_named,
-                ..payload
-            })
-        }) {
-            Err(failure) if are_several && !failure.is_of_output() => {
+        match Payload::read(file, is_named).and_then(&mut job) {
+            Ok(()) => (),
+            // what cannot be printed of one cannot be of the next
+            Err(failure @ Failure::NotWritten(..)) => return Err(failure),
+            Err(failure) if are_several => {
                 failure.tell();
                 status = status.max(failure.status());
             }
-            done => done?,
+            Err(failure) => return Err(failure),
         }
     }
     match status {
@@ -132,11 +145,12 @@ fn each(call: &Call, mut job: impl FnMut(Payload) -> Result<(), Failure>) -> Res
 }
 
 impl<'a> Payload<'a> {
-    fn read(file: &'a OsStr) -> Result<Self, Failure> {
+    fn read(file: &'a OsStr, is_named: bool) -> Result<Self, Failure> {
+        let bytes = files::read(file)?;
         Ok(Payload {
             file,
-            bytes: files::read(file)?,
-            is_named: false,
+            bytes,
+            is_named,
         })
     }
 
@@ -201,19 +215,20 @@ impl<'a> Payload<'a> {
         })
     }
 
+    /// Prints an array, an element a line; of a payload that is told with its name an object in one line.
     fn print_json(
         &self,
         what: &str,
-        print: impl FnOnce(&mut dyn Write) -> io::Result<()>,
+        print: impl FnOnce(&str, &mut dyn Write) -> io::Result<()>,
     ) -> Result<(), Failure> {
         files::print(|out| match self.name() {
             None => {
-                print(out)?;
+                print("\n", out)?;
                 writeln!(out)
             }
             Some(name) => {
                 write!(out, "{{\"file\":{},\"{what}\":", Json(&name))?;
-                print(out)?;
+                print("", out)?;
                 writeln!(out, "}}")
             }
         })

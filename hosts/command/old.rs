@@ -12,7 +12,7 @@
 //! The bits for set-user-ID, set-group-ID and sticky are not kept.
 use crate::system;
 use std::ffi::CStr;
-use std::fs::{File, Permissions};
+use std::fs::{self, File, Permissions};
 use std::io;
 use std::os::unix::fs::{fchown, MetadataExt, PermissionsExt};
 
@@ -27,6 +27,12 @@ pub struct Old {
     pub readable: Option<File>,
 }
 
+/// What the new file has of the old one.
+pub struct Kept {
+    owner: bool,
+    group: bool,
+}
+
 impl Old {
     /// The permission bits of the new file while it is written.
     pub fn private_bits(&self) -> io::Result<u32> {
@@ -34,26 +40,27 @@ impl Old {
     }
 
     /// Gives the new file to the old one's owner and group, each if the caller may, and to nobody else.
-    pub fn give_away(&self, new: &File) -> io::Result<()> {
+    pub fn give_away(&self, new: &File) -> io::Result<Kept> {
         let old = self.file.metadata()?;
         // it may have come by the folder's default
         system::remove_attribute(new, ACL)?;
-        let _ = fchown(new, None, Some(old.gid()));
-        let _ = fchown(new, Some(old.uid()), None);
-        Ok(())
+        // the group first, which is no longer to be set once the file is another's
+        let group =
+            is_known(old.gid(), "/proc/self/gid_map") && fchown(new, None, Some(old.gid())).is_ok();
+        let owner =
+            is_known(old.uid(), "/proc/self/uid_map") && fchown(new, Some(old.uid()), None).is_ok();
+        Ok(Kept { owner, group })
     }
 
     /// Gives the new file, which is written, its permission bits.
-    pub fn share(&self, new: &File) -> io::Result<()> {
-        let (old, now) = (self.file.metadata()?, new.metadata()?);
-        let (same_owner, same_group) = (old.uid() == now.uid(), old.gid() == now.gid());
-        let same_acl = self.copy_acl(new, same_owner && same_group);
-        let bits = shared_bits(old.mode(), same_owner, same_group, same_acl);
+    pub fn share(&self, new: &File, kept: &Kept) -> io::Result<()> {
+        let has_acl = self.copy_acl(new, kept);
+        let bits = shared_bits(self.file.metadata()?.mode(), kept, has_acl);
         new.set_permissions(Permissions::from_mode(bits))
     }
 
     /// Whether the new file has the old one's ACL, or both have none.
-    fn copy_acl(&self, new: &File, may_copy: bool) -> bool {
+    fn copy_acl(&self, new: &File, kept: &Kept) -> bool {
         let Some(old) = &self.readable else {
             return false;
         };
@@ -61,24 +68,32 @@ impl Old {
             return false;
         }
         match system::attribute(old, ACL) {
-            Ok(Some(acl)) => may_copy && system::set_attribute(new, ACL, &acl).is_ok(),
+            Ok(Some(acl)) => {
+                kept.owner && kept.group && system::set_attribute(new, ACL, &acl).is_ok()
+            }
             Ok(None) => true,
             Err(_) => false,
         }
     }
 }
 
-fn shared_bits(old: u32, same_owner: bool, same_group: bool, same_acl: bool) -> u32 {
+/// Whether a number stands for one user or group. In a container all that its map does not have are shown by this one.
+fn is_known(number: u32, map: &str) -> bool {
+    let has_all = |map: String| map.split_whitespace().eq(["0", "0", "4294967295"]);
+    number != 65_534 || fs::read_to_string(map).is_ok_and(has_all)
+}
+
+fn shared_bits(old: u32, kept: &Kept, has_acl: bool) -> u32 {
     let (user, mut group, mut others) = (old >> 6 & 7, old >> 3 & 7, old & 7);
-    if !same_group {
+    if !kept.group {
         others &= group;
         group = 0;
     }
-    if !same_owner {
+    if !kept.owner {
         group &= user;
         others &= user;
     }
-    if !same_acl {
+    if !has_acl {
         group = 0;
         others = 0;
     }

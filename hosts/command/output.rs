@@ -5,7 +5,7 @@ use crate::place::Place;
 use crate::{files, system};
 use std::ffi::{CStr, CString, OsStr, OsString};
 use std::fs::File;
-use std::io::{self, ErrorKind, IsTerminal, Write};
+use std::io::{self, IsTerminal, Write};
 
 /// Where a result goes, found before what it is made from is read. A file that is to be replaced is locked until the
 /// result is there: of calls at once that rename in place, each reads what the one before has written.
@@ -15,7 +15,6 @@ enum To {
     Standard,
     File {
         out: OsString,
-        replace: bool,
         place: Place,
         old: Option<Old>,
     },
@@ -35,42 +34,23 @@ impl Output {
         let place = Place::find(out).map_err(not_written(out))?;
         let old = place.hold(out, replace).map_err(not_written(out))?;
         let out = out.to_os_string();
-        Ok(Output(To::File {
-            out,
-            replace,
-            place,
-            old,
-        }))
+        Ok(Output(To::File { out, place, old }))
     }
 
     pub fn write(self, bytes: &[u8]) -> Result<(), Failure> {
-        let To::File {
-            out,
-            replace,
-            place,
-            mut old,
-        } = self.0
-        else {
+        let To::File { out, place, old } = self.0 else {
             return files::print(|stdout| stdout.write_all(bytes));
         };
-        loop {
-            let done = match &old {
-                Some(old) => write_over(&place, old, bytes),
-                None => write_new(&place, bytes),
-            };
-            match done {
-                // it came to be in the meantime
-                Err(error) if error.kind() == ErrorKind::AlreadyExists => {
-                    old = place.hold(&out, replace).map_err(not_written(&out))?;
-                }
-                done => return done.map_err(not_written(&out)),
-            }
-        }
+        let written = match &old {
+            Some(old) => write_over(&place, old, bytes),
+            None => write_new(&place, bytes),
+        };
+        written.map_err(not_written(&out))
     }
 }
 
 fn not_written(out: &OsStr) -> impl Fn(io::Error) -> Failure + '_ {
-    move |error| Failure::File("write", format!("{out:?}"), error)
+    move |error| Failure::NotWritten(format!("{out:?}"), error)
 }
 
 fn write_new(place: &Place, bytes: &[u8]) -> io::Result<()> {
@@ -79,7 +59,7 @@ fn write_new(place: &Place, bytes: &[u8]) -> io::Result<()> {
     // renaming would replace a file that came to be in the meantime; a second name does not
     match system::link_at(&place.folder, &temporary.name, &place.name) {
         Ok(()) => Ok(()),
-        Err(_) if place.look().is_ok() => Err(ErrorKind::AlreadyExists.into()),
+        Err(_) if place.look().is_ok() => Err(replaced_meanwhile()),
         // a file system that knows no second names
         Err(_) => temporary.rename(&place.name),
     }
@@ -87,13 +67,17 @@ fn write_new(place: &Place, bytes: &[u8]) -> io::Result<()> {
 
 fn write_over(place: &Place, old: &Old, bytes: &[u8]) -> io::Result<()> {
     let mut temporary = Temporary::create(&place.folder, old.private_bits()?)?;
-    old.give_away(&temporary.file)?;
+    let kept = old.give_away(&temporary.file)?;
     temporary.fill(bytes)?;
-    old.share(&temporary.file)?;
+    old.share(&temporary.file, &kept)?;
     if !place.leads_to(&old.file)? {
-        return Err(io::Error::other("another file was put there meanwhile"));
+        return Err(replaced_meanwhile());
     }
     temporary.rename(&place.name)
+}
+
+fn replaced_meanwhile() -> io::Error {
+    io::Error::other("another file was put there meanwhile")
 }
 
 /// A new file beside its place. It is removed again if it is not put there, by a signal too.

@@ -1,8 +1,8 @@
 //! The place that OUT leads to: a name in a folder that is open. Once it is found nothing follows a link, nor goes by a
 //! path, which others could turn elsewhere.
 use crate::old::Old;
-use crate::system;
-use std::ffi::{CString, OsStr};
+use crate::system::{self, Lock};
+use std::ffi::{CStr, CString, OsStr};
 use std::fs::{self, File, Metadata};
 use std::io::{self, ErrorKind};
 use std::os::unix::ffi::OsStrExt;
@@ -13,6 +13,8 @@ use std::time::{Duration, Instant};
 /// How long a call waits for others that replace the same file.
 const PATIENCE: Duration = Duration::from_secs(10);
 const PAUSE: Duration = Duration::from_millis(5);
+/// As many as the system follows.
+const MOST_LINKS: usize = 40;
 
 pub struct Place {
     pub folder: File,
@@ -20,7 +22,7 @@ pub struct Place {
 }
 
 impl Place {
-    /// Follows the links of OUT. Each is read from what was opened, and not by its name once more.
+    /// Follows OUT part by part. Each link is read from what was opened, and not by its name once more.
     pub fn find(out: &OsStr) -> io::Result<Place> {
         // the system's own answer first: of a link in /proc it knows more than the link's text tells
         match fs::metadata(out) {
@@ -28,59 +30,44 @@ impl Place {
             Err(error) if error.kind() == ErrorKind::NotFound => (),
             Err(error) => return Err(error),
         }
-        let mut place = Place::of(None, out.as_bytes())?;
-        // as many links as the system follows
-        for links in 0..=40 {
-            match place.look() {
-                Ok(there) if there.metadata()?.is_symlink() => {
-                    place.refuse_planted(&there)?;
-                    let path = system::read_link(&there)?;
-                    place = Place::of(Some(&place.folder), path.as_bytes()).map_err(behind_link)?;
+        let mut folder = beginning(out.as_bytes())?;
+        let mut parts = parts(out.as_bytes())?;
+        let (mut links, mut is_link) = (0, false);
+        while let Some(name) = parts.pop() {
+            let is_last = parts.is_empty();
+            let there = match look(&folder, &name) {
+                Err(error) if error.kind() == ErrorKind::NotFound && is_link => {
+                    return Err(io::Error::other("it is a link to nothing"));
                 }
-                Err(error) if links > 0 => return Err(behind_link(error)),
-                Err(error) if error.kind() != ErrorKind::NotFound => return Err(error),
-                _ => return Ok(place),
+                Err(error) if error.kind() == ErrorKind::NotFound && is_last => {
+                    return Ok(Place { folder, name });
+                }
+                there => there?,
+            };
+            if there.metadata()?.is_symlink() {
+                refuse_planted(&folder, &there)?;
+                let path = system::read_link(&there)?;
+                if path.as_bytes().starts_with(b"/") {
+                    folder = beginning(path.as_bytes())?;
+                }
+                parts.extend(self::parts(path.as_bytes())?);
+                is_link |= is_last;
+                links += 1;
+                if links > MOST_LINKS {
+                    return Err(io::Error::other("it has too many links"));
+                }
+            } else if is_last {
+                return Ok(Place { folder, name });
+            } else {
+                folder = there;
             }
         }
-        Err(io::Error::other("it has too many links"))
-    }
-
-    /// The folder and the last name of a path.
-    fn of(from: Option<&File>, path: &[u8]) -> io::Result<Place> {
-        let end = path
-            .iter()
-            .rposition(|byte| *byte == b'/')
-            .map_or(0, |slash| slash + 1);
-        let (folder, name) = path.split_at(end);
-        if name.is_empty() {
-            return Err(ErrorKind::NotFound.into());
-        }
-        let folder = CString::new(if folder.is_empty() { &b"."[..] } else { folder })?;
-        let folder = system::open_at(from, &folder, system::LOOK | system::FOLDER)?;
-        let name = CString::new(name)?;
-        Ok(Place { folder, name })
-    }
-
-    /// Linux can be told not to follow a link that a stranger has put into a folder where all may write, as /tmp. Here
-    /// none is followed. Those of the caller and of the folder's owner are.
-    fn refuse_planted(&self, link: &File) -> io::Result<()> {
-        let (folder, owner) = (self.folder.metadata()?, link.metadata()?.uid());
-        let is_shared = folder.mode() & 0o1002 == 0o1002;
-        if is_shared && owner != system::user() && owner != folder.uid() {
-            return Err(io::Error::other(
-                "it is a link of another user's, in a folder where all may write",
-            ));
-        }
-        Ok(())
+        Err(io::Error::other("it is no name of a file"))
     }
 
     /// What is there, to be looked at.
     pub fn look(&self) -> io::Result<File> {
-        system::open_at(
-            Some(&self.folder),
-            &self.name,
-            system::LOOK | system::NO_FOLLOW,
-        )
+        look(&self.folder, &self.name)
     }
 
     /// Whether this file is there.
@@ -108,7 +95,7 @@ impl Place {
             }
             if Instant::now() > end {
                 return Err(io::Error::other(
-                    "another call is replacing it, and has not ended in 10 seconds",
+                    "another process has locked it, for 10 seconds or more",
                 ));
             }
             thread::sleep(PAUSE);
@@ -117,18 +104,28 @@ impl Place {
 
     /// Locks what is there. There is no answer where another call holds it, or has just replaced it.
     fn lock(&self, file: File, out: &OsStr) -> io::Result<Option<Old>> {
-        let flags = system::NO_FOLLOW | system::NO_WAIT;
-        let readable = match system::open_at(Some(&self.folder), &self.name, flags) {
-            Ok(readable) => Some(readable),
-            Err(error) if error.kind() == ErrorKind::PermissionDenied => None,
-            Err(error) if self.leads_to(&file)? => return Err(error),
-            Err(_) => return Ok(None),
-        };
-        if let Some(readable) = &readable {
-            if !is_same(&readable.metadata()?, &file)? || !system::lock(readable) {
+        let mut readable = None;
+        // NFS locks only what is open for writing
+        for way in [system::READ, system::READ_AND_WRITE] {
+            let flags = way | system::NO_FOLLOW | system::NO_WAIT;
+            let opened = match system::open_at(Some(&self.folder), &self.name, flags) {
+                Ok(opened) => opened,
+                Err(error) if error.kind() == ErrorKind::PermissionDenied => break,
+                Err(error) if self.leads_to(&file)? => return Err(error),
+                Err(_) => return Ok(None),
+            };
+            if !is_same(&opened.metadata()?, &file)? {
                 return Ok(None);
             }
+            let lock = system::lock(&opened)?;
+            readable = Some(opened);
+            match lock {
+                Lock::Had => break,
+                Lock::OfAnother => return Ok(None),
+                Lock::OfWriters => (),
+            }
         }
+        // what a link in /proc leads to is not where its text does, if that file was replaced
         let is_out = fs::metadata(out).map_or(Ok(false), |there| is_same(&there, &file))?;
         match self.leads_to(&file)? {
             true if is_out => Ok(Some(Old { file, readable })),
@@ -136,6 +133,44 @@ impl Place {
             false => Ok(None),
         }
     }
+}
+
+/// The folder that a path begins in.
+fn beginning(path: &[u8]) -> io::Result<File> {
+    let name = if path.starts_with(b"/") { c"/" } else { c"." };
+    system::open_at(None, name, system::LOOK | system::FOLDER)
+}
+
+/// The parts of a path, the last one first. What ends in a slash is a folder, and so its last part is that folder itself.
+fn parts(path: &[u8]) -> io::Result<Vec<CString>> {
+    let end = path.ends_with(b"/").then_some(&b"."[..]);
+    let names = path
+        .split(|byte| *byte == b'/')
+        .filter(|part| !part.is_empty());
+    let mut parts: Vec<CString> = names
+        .chain(end)
+        .map(CString::new)
+        .collect::<Result<_, _>>()?;
+    parts.reverse();
+    Ok(parts)
+}
+
+/// What has a name in a folder, to be looked at.
+fn look(folder: &File, name: &CStr) -> io::Result<File> {
+    system::open_at(Some(folder), name, system::LOOK | system::NO_FOLLOW)
+}
+
+/// Linux can be told not to follow a link that a stranger has put into a folder where all may write, as /tmp. Here none
+/// is followed. Those of the caller and of the folder's owner are.
+fn refuse_planted(folder: &File, link: &File) -> io::Result<()> {
+    let (folder, owner) = (folder.metadata()?, link.metadata()?.uid());
+    let is_shared = folder.mode() & 0o002 != 0;
+    if is_shared && owner != system::user() && owner != folder.uid() {
+        return Err(io::Error::other(
+            "it leads through a link of another user's, in a folder where all may write",
+        ));
+    }
+    Ok(())
 }
 
 fn is_same(one: &Metadata, other: &File) -> io::Result<bool> {
@@ -147,12 +182,5 @@ fn refuse_special(there: &Metadata) -> io::Result<()> {
     match there.is_file() {
         true => Ok(()),
         false => Err(io::Error::other("it is there, and is no regular file")),
-    }
-}
-
-fn behind_link(error: io::Error) -> io::Error {
-    match error.kind() {
-        ErrorKind::NotFound => io::Error::other("it is a link to nothing"),
-        _ => error,
     }
 }

@@ -1,6 +1,6 @@
 //! The rows of a payload, printed with their texts.
 use crate::table::Table;
-use crate::text::{Field, Json};
+use crate::text::{json_array, Field, Json};
 use srci::Row;
 use std::fmt::Display;
 use std::io::{Result, Write};
@@ -41,9 +41,9 @@ pub fn table(
     Ok(())
 }
 
-pub fn json(payload: &[u8], rows: &[Row], out: &mut dyn Write) -> Result<()> {
-    write!(out, "[")?;
-    for (place, row) in rows.iter().enumerate() {
+/// An array of the rows, which are parted by line ends too where there are to be any.
+pub fn json(payload: &[u8], rows: &[Row], line_end: &str, out: &mut dyn Write) -> Result<()> {
+    json_array(out, line_end, rows.iter(), |out, row| {
         let Row {
             tag,
             side,
@@ -53,12 +53,8 @@ pub fn json(payload: &[u8], rows: &[Row], out: &mut dyn Write) -> Result<()> {
             d,
             e,
         } = row;
-        let before = if place == 0 { "\n" } else { ",\n" };
         let kind = row.kind();
-        write!(
-            out,
-            "{before}{{\"tag\":{tag},\"row\":\"{kind}\",\"side\":{side}"
-        )?;
+        write!(out, "{{\"tag\":{tag},\"row\":\"{kind}\",\"side\":{side}")?;
         write!(out, ",\"a\":{a},\"b\":{b},\"c\":{c},\"d\":{d},\"e\":{e}")?;
         if let Some(text) = text(row.text(payload, b"")).map(Json) {
             write!(out, ",\"text\":{text}")?;
@@ -66,7 +62,6 @@ pub fn json(payload: &[u8], rows: &[Row], out: &mut dyn Write) -> Result<()> {
         if let Some(value) = text(row.value(payload, b"")).map(Json) {
             write!(out, ",\"value\":{value}")?;
         }
-        write!(out, "}}")?;
-    }
-    write!(out, "\n]")
+        write!(out, "}}")
+    })
 }

@@ -1,6 +1,6 @@
 //! What Rust's own library has no words for: files by the folder that is open, attributes, locks, signals, and streams
-//! that were closed from the start. It is the only unsafe code of the command, behind safe functions, with the numbers
-//! of Linux on x86-64.
+//! that were closed from the start. With the allocator's (memory.rs) it is the only unsafe code of the command, behind
+//! safe functions, with the numbers of Linux on x86-64.
 use std::collections::hash_map::RandomState;
 use std::ffi::{c_char, c_int, c_uint, c_void, CStr, CString};
 use std::fs::File;
@@ -48,6 +48,8 @@ fn done(answer: c_int) -> io::Result<()> {
 
 // ---- files, by the folder that is open
 
+pub const READ: c_int = 0;
+pub const READ_AND_WRITE: c_int = 0o2;
 /// To look at what has a name, and not into it: neither a pipe nor a device notices.
 pub const LOOK: c_int = 0o10_000_000;
 /// A folder, or a failure.
@@ -172,12 +174,30 @@ pub fn remove_attribute(file: &File, name: &CStr) -> io::Result<()> {
 
 const EXCLUSIVE: c_int = 2;
 const DO_NOT_WAIT: c_int = 4;
+const BAD_FILE: i32 = 9;
+const WOULD_BLOCK: i32 = 11;
+const NO_LOCKS: i32 = 37;
+const NO_SUCH_CALL: i32 = 38;
 
-/// Locks a file until it is closed, and says whether nobody else holds it. Where there are no locks nobody does.
-pub fn lock(file: &File) -> bool {
+pub enum Lock {
+    /// It is this call's until the file is closed, or its file system has none.
+    Had,
+    OfAnother,
+    /// Its file system gives it only to a file that is open for writing.
+    OfWriters,
+}
+
+pub fn lock(file: &File) -> io::Result<Lock> {
     // SAFETY: the file is open
-    let locked = done(unsafe { flock(file.as_raw_fd(), EXCLUSIVE | DO_NOT_WAIT) });
-    !locked.is_err_and(|error| error.kind() == io::ErrorKind::WouldBlock)
+    match done(unsafe { flock(file.as_raw_fd(), EXCLUSIVE | DO_NOT_WAIT) }) {
+        Ok(()) => Ok(Lock::Had),
+        Err(error) => match error.raw_os_error() {
+            Some(NO_LOCKS | NO_SUCH_CALL | NOT_SUPPORTED) => Ok(Lock::Had),
+            Some(WOULD_BLOCK) => Ok(Lock::OfAnother),
+            Some(BAD_FILE) => Ok(Lock::OfWriters),
+            _ => Err(error),
+        },
+    }
 }
 
 // ---- the temporary file, and the signals that end the command
@@ -194,9 +214,7 @@ pub fn create_temporary(folder: &File, mode: u32) -> io::Result<(CString, File)>
     // the name is known before the file is there, so that no signal can come between
     TEMPORARY_IN.store(folder, SeqCst);
     TEMPORARY.store(name.clone().into_raw(), SeqCst);
-    [HANG_UP, INTERRUPT, QUIT, TERMINATE]
-        .into_iter()
-        .try_for_each(remove_before)?;
+    ENDING.into_iter().try_for_each(remove_before)?;
     let file = create_at(folder, &name, WRITE_ONLY | CREATE_NEW | NO_FOLLOW, mode)?;
     Ok((name, file))
 }
@@ -217,10 +235,9 @@ pub fn keep_temporary() {
     TEMPORARY.store(ptr::null_mut(), SeqCst);
 }
 
-const HANG_UP: c_int = 1;
-const INTERRUPT: c_int = 2;
-const QUIT: c_int = 3;
-const TERMINATE: c_int = 15;
+/// The signals by which a process is ended from outside: HUP, INT, QUIT, USR1, USR2, ALRM, TERM, XCPU, XFSZ, VTALRM, PROF,
+/// IO and PWR. KILL cannot be caught.
+const ENDING: [c_int; 13] = [1, 2, 3, 10, 12, 14, 15, 24, 25, 26, 27, 29, 30];
 const IGNORED: usize = 1;
 const ONCE: c_int = -0x8000_0000;
 
@@ -260,6 +277,7 @@ extern "C" fn remove_and_end(signal: c_int) {
 
 /// Whether each was closed when the command was started. Rust opens /dev/null in its place before `main`.
 static CLOSED: [AtomicBool; 2] = [AtomicBool::new(false), AtomicBool::new(false)];
+/// Asks for a descriptor's flags, which only an open one has.
 const GET_FLAGS: c_int = 1;
 
 #[used]

@@ -1,8 +1,10 @@
-//! Texts of a payload as they are printed: each stays in its field and on its line, and none draws over others.
+//! Texts of a payload as they are printed: each stays in its field and on its line.
 use std::fmt::{Display, Formatter, Result, Write};
+use std::io;
 
-/// Characters that do not show, or that change how others show: controls, separators of lines, annotations, and what
-/// Unicode lists as Default_Ignorable_Code_Point, marks of direction and variation selectors among them.
+/// Characters that do not show, or that change how others show: controls, separators of lines, annotations, the blank
+/// pattern of Braille, and what Unicode lists as Default_Ignorable_Code_Point, marks of direction and variation
+/// selectors among them.
 fn is_unseen(c: char) -> bool {
     c.is_control()
         || matches!(c,
@@ -15,6 +17,7 @@ fn is_unseen(c: char) -> bool {
             | '\u{200b}'..='\u{200f}'
             | '\u{2028}'..='\u{202e}'
             | '\u{2060}'..='\u{206f}'
+            | '\u{2800}'
             | '\u{3164}'
             | '\u{fe00}'..='\u{fe0f}'
             | '\u{feff}'
@@ -69,4 +72,20 @@ impl Display for Json<'_> {
         }
         f.write_char('"')
     }
+}
+
+/// Prints an array, whose elements are parted by line ends too where there are to be any.
+pub fn json_array<T>(
+    out: &mut dyn io::Write,
+    line_end: &str,
+    all: impl Iterator<Item = T>,
+    print: impl Fn(&mut dyn io::Write, T) -> io::Result<()>,
+) -> io::Result<()> {
+    write!(out, "[")?;
+    for (place, one) in all.enumerate() {
+        let before = if place == 0 { "" } else { "," };
+        write!(out, "{before}{line_end}")?;
+        print(out, one)?;
+    }
+    write!(out, "{line_end}]")
 }

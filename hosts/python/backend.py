@@ -2,8 +2,8 @@
 
     backend.py FOLDER
 
-It packs the Python files of this folder with the library that hosts/build.sh built, and prints the wheel's path. Its
-bytes depend on what is packed alone, and not on when or where. build_wheel is what PEP 517 asks of a backend.
+It packs the package that hosts/build.sh built, and prints the wheel's path. Its bytes depend on what is packed alone,
+and not on when or where. build_wheel is what PEP 517 asks of a backend.
 """
 import ast
 import base64
@@ -15,7 +15,8 @@ import zipfile
 
 HERE = pathlib.Path(__file__).resolve().parent
 ROOT = HERE.parents[1]
-LIBRARY = ROOT / "build/python/srci/libsrci.so"
+BUILT = ROOT / "build/python"
+LIBRARY = BUILT / "srci/libsrci.so"
 NOTICE = ROOT / "NOTICE"
 
 # The oldest C library that a tag of PEP 600 is used for here: 2.17 is of 2012.
@@ -69,7 +70,7 @@ def platform():
 
 def packed(package):
     """What is installed, by its path in the wheel."""
-    sources = [*sorted((HERE / package).glob("*.py")), HERE / package / "py.typed", LIBRARY]
+    sources = [*sorted((BUILT / package).glob("*.py")), BUILT / package / "py.typed", LIBRARY]
     return {f"{package}/{source.name}": source.read_bytes() for source in sources}
 
 

@@ -53,6 +53,11 @@ def told(numbers, letters):
     return ", ".join(f"{letter} {number}" for letter, number in zip(letters, numbers) if number) or "none"
 
 
+def refusals():
+    """The refusals, each as a tuple of Rust or Python."""
+    return [f"({', '.join(map(quoted, told))})," for _, *told in REFUSALS]
+
+
 # ---- C
 
 
@@ -78,7 +83,7 @@ def c_refusals():
 def c_texts(what, column):
     texts = ",\n".join(" " * 8 + quoted(refusal[column]) for refusal in REFUSALS)
     return f"""\
-static inline const char *srci_refusal_{what}(uint32_t number)
+SRCI_INLINE const char *srci_refusal_{what}(uint32_t number)
 {{
     static const char *const texts[] = {{
 {texts}
@@ -128,7 +133,6 @@ def rust_tags():
 
 
 def rust_tables():
-    refusals = [f"({quoted(name)}, {quoted(meaning)})," for _, name, meaning, _ in REFUSALS]
     rows = [f"({quoted(row)}, [{', '.join(map(quoted, numbers))}])," for _, row, numbers in ROWS]
     return f"""\
 //! The version, the refusals and the rows, as hosts/tables has them; its `spread.py` writes this file.
@@ -136,10 +140,10 @@ def rust_tables():
 /// The version of this package.
 pub const VERSION: &str = {quoted(VERSION)};
 
-/// The name of each refusal and what it means, by the numbers from 1.
+/// The name of each refusal, what it means and what its second number is, by the numbers from 1.
 #[rustfmt::skip]
-pub(crate) const REFUSALS: [(&str, &str); {len(REFUSALS)}] = [
-{block(refusals, "    ")}];
+pub(crate) const REFUSALS: [(&str, &str, &str); {len(REFUSALS)}] = [
+{block(refusals(), "    ")}];
 
 /// What a row is called, by its tag, and what its numbers A to E are; those that have no name are 0.
 #[rustfmt::skip]
@@ -152,7 +156,6 @@ pub const ROWS: [(&str, [&str; {len(LETTERS)}]); {len(ROWS)}] = [
 
 
 def python_tables():
-    refusals = [f"({quoted(name)}, {quoted(meaning)})," for _, name, meaning, _ in REFUSALS]
     tags = [f"{constant(row)} = {tag}" for tag, row, _ in ROWS]
     page = [f"{tag:4}  {row:15}  {numbers}" for tag, row, numbers in row_cells(LETTERS.lower())]
     rule = f"{'=' * 4}  {'=' * 15}  {'=' * max(len(line) - 23 for line in page)}"
@@ -164,9 +167,9 @@ from typing import Final
 
 VERSION: Final = {quoted(VERSION)}
 
-# The name of each refusal and what it means, by the numbers from 1.
+# The name of each refusal, what it means and what its second number is, by the numbers from 1.
 REFUSALS: Final = (
-{block(refusals, "    ")})
+{block(refusals(), "    ")})
 
 
 class Tag(IntEnum):

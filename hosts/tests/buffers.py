@@ -180,6 +180,7 @@ def test_refused():
     assert len(srci.REFUSALS) == 19
     for number, name in enumerate(srci.REFUSALS, 1):
         assert str(srci.Refused(number)).startswith(f"refused {number}, {name}: ")
+    assert str(srci.Refused(19, 5)) == "refused 19, no room: The output is too short. (bytes needed: 5)"
 
 
 def test_equal_rows():

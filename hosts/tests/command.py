@@ -16,7 +16,7 @@ import struct
 from calling import fails, prints, run, run_tests
 from cases import SAMPLE, line_cases, refusal_cases
 from sections import arguments, card, contents, listing, names, packed, payload, unknown
-from srci import LIMIT, REFUSALS
+from srci import LIMIT, REFUSALS, Refused
 
 ROOT = pathlib.Path(__file__).resolve().parents[2]
 
@@ -37,7 +37,10 @@ MEANINGS = {
     13: "left after the last section or entry",
     14: "neither 0 (plain) nor 1 (packed)",
     15: "uncompressed size that is not that of their stored bytes",
-    18: "over 65,535 sections",
+    16: "table of rows is too short",
+    17: "row breaks a rule of rows, or the table has a part of a row",
+    18: "over 65,535 sections, 65,535 bytes of names in one, or 26,214,400 bytes",
+    19: "output is too short",
 }
 
 
@@ -114,11 +117,25 @@ def test_places_of_refusals(folder):
         assert said.endswith(f" ({place})\n".encode()), f"{case.name}: {said}, not {place}"
 
 
+def test_the_place_is_the_first(folder):
+    open_text = arguments((b"E", b"main")).data[:-1] + b"\1"
+    data = struct.pack("<IHH", 8 + 2 * len(open_text) + 40, 0, 3) + names((b"a", 5)).data + 2 * open_text
+    fails(1, "(section 1, at byte 48)", "check", "-", data=data)
+
+
+def test_meanings(folder):
+    assert [*MEANINGS] == [*range(1, len(REFUSALS) + 1)]
+    for number, words in MEANINGS.items():
+        assert words in Refused(number).meaning
+    assert str(Refused(16, 5)).endswith("(rows needed: 5)") and str(Refused(19, 5)).endswith("(bytes needed: 5)")
+
+
 def test_containers(folder):
     # the least container: a digest, versions 1 and 0, its size, and no parts
-    for data in (b"DXBC" + bytes(16) + struct.pack("<HHII", 1, 0, 32, 0), b"DXBC" + bytes(27)):
-        out, said, status = run("card", "-", data=data)
-        assert (out, status) == (b"", 1) and b"shader container" in said and b"SRCI" in said, said
+    for number, data in [(3, b"DXBC" + bytes(16) + struct.pack("<HHII", 1, 0, 32, 0)), (2, b"DXBC" + bytes(27))]:
+        for words in (["card", "-"], ["public-copy", "-", "-"], ["rename", "-", "a", "b", "-"]):
+            is_refused(number, *words, data=data)
+            fails(1, "is a shader container; the payload is its part SRCI", *words, data=data)
     _, said, _ = run("card", "-", data=b"DXBD" + bytes(28))
     assert b"container" not in said
 
@@ -164,8 +181,8 @@ def test_facts(folder):
 
 
 def test_characters_that_do_not_show(folder):
-    # controls, separators of lines, annotations, and Unicode's Default_Ignorable_Code_Point
-    ranges = """1-1f 7f-9f ad 34f 61c 115f-1160 17b4-17b5 180b-180f 200b-200f 2028-2029 202a-202e 2060-206f 3164
+    # controls, separators of lines, annotations, the blank of Braille, and Unicode's Default_Ignorable_Code_Point
+    ranges = """1-1f 7f-9f ad 34f 61c 115f-1160 17b4-17b5 180b-180f 200b-200f 2028-2029 202a-202e 2060-206f 2800 3164
         fe00-fe0f feff ffa0 fff0-fff8 fff9-fffb 1bca0-1bca3 1d173-1d17a e0000-e0fff"""
     ends = [[int(end, 16) for end in ends.split("-")] for ends in ranges.split()]
     unseen = {c for end in ends for c in range(end[0], end[-1] + 1)}
@@ -240,6 +257,9 @@ def test_rename(folder):
     # two files would become one, or a file nameless, unless that is said
     fails(1, 'a file is named "other.hlsl" already', "rename", file, "old", "other.hlsl", none)
     fails(1, 'a file is named "old" already', "rename", file, "other.hlsl", "old", none)
+    fails(1, "already", "rename", file, "old", "other.hlsl", out, "--force")
+    nameless = payload(names((b"old", 1), (b"", 1)))
+    fails(1, 'a file is named "" already', "rename", "-", "old", "", none, "--empty", data=nameless)
     fails(2, "NEW is empty", "rename", file, "old", "", none)
     fails(2, "NEW is empty", "rename", file, "old", "", none, "--merge")
     assert not none.exists()
@@ -288,13 +308,22 @@ def test_memory(folder):
     file = folder / "payload"
     file.write_bytes(payload(arguments(*[(b"", b"")] * pairs), old))
     with open("/dev/null", "wb") as null:
-        for words in (["facts", file], ["facts", file, "--json"], ["card", file]):
+        for words in (["facts", file], ["facts", file, "--json"], ["public-copy", file, "-"]):
             assert run(*words, stdout=null, preexec_fn=limit_memory)[1:] == (b"", 0)
+        for command in ("card", "list", "check"):
+            assert run(command, file, stdout=null, preexec_fn=limit_memory)[1:] == (b"", 0)
     new = payload(arguments(*[(b"", b"")] * pairs), names((b"new", 1)))
     prints("", "rename", file, "old", "new", folder / "out", preexec_fn=limit_memory)
     assert (folder / "out").read_bytes() == new
     # 13 million rows are 367 MB
     fails(3, "not enough memory", "rows", file, preexec_fn=limit_memory)
+    # and what is refused at its end
+    with file.open("r+b") as data:
+        data.seek(-1, os.SEEK_END)
+        data.write(b"\1")
+    place = f"(section 1, at byte {LIMIT - 40})"
+    for command in ("check", "facts", "rows"):
+        fails(1, place, command, file, preexec_fn=limit_memory)
 
 
 def test_the_limit(folder):

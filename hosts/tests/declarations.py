@@ -1,5 +1,6 @@
 """Compares with the Rattle source what the hosts declare: the entry points in C, Rust and Python, and the archive's;
 the limit and the width of a row; and the refusals and rows of hosts/tables, which spread.py writes where they are told.
+Looks in the Rust package for what its users need where more refusals come.
 
     declarations.py ARCHIVE
 
@@ -119,3 +120,12 @@ width = told("crates/table/src/row.rt", r"WIDTH: usize = (\d+);")
 in_c = told("hosts/c/srci.h", r"#define SRCI_ROW_WIDTH (\d+)")
 in_rust = told("hosts/rust/src/row.rs", r"WIDTH: usize = (\d+)")
 same("the width of a row in C and Rust", [in_c, in_rust], [width] * 2)
+
+# ---- Rust
+
+for path, kind in [("refusal", "enum Refusal"), ("facts", "struct Section<'a>")]:
+    assert f"\n#[non_exhaustive]\npub {kind} {{" in text(f"hosts/rust/src/{path}.rs"), kind
+sources = "".join(text(f"hosts/rust/src/{name}.rs") for name in ("lib", "lent", "facts"))
+answering = re.findall(r"((?:^///.*\n)*)^pub fn (\w+)\([^)]*\) -> Result", sources, re.M)
+same("tell their errors", [name for told, name in answering if "/// # Errors\n" in told], [name for _, name in answering])
+assert len(answering) == 12

@@ -123,6 +123,12 @@ def test_facts_of_the_cases_of_the_programs():
             assert raises(srci.Refused, job, case.data).number == number, case.name
 
 
+def test_bounds_that_are_not_given():
+    data = payload(*[names(*[(b"a", 1)] * 600)] * 2)
+    assert srci.names(data) == srci.names(data, 1000) and srci.names(data).left_out == 200
+    assert srci.facts(data) == srci.facts(data, 1000) and srci.facts(data).left_out == 202
+
+
 def test_bounds_are_numbers_from_0():
     for job in (srci.facts, srci.names, srci.first_lines):
         data = "" if job is srci.first_lines else WHOLE
@@ -178,6 +184,16 @@ def expect_bounded(data, facts, names, most_steps):
         assert ran < most_steps, f"{job.__name__}: {ran} lines of Python were run"
         # the public copy is held, and little beside it
         assert held < len(data) + 200_000, f"{job.__name__}: {held} bytes were held"
+
+
+def test_a_text_as_long_as_the_payload():
+    # a last character that makes Python keep four bytes for each of the others
+    value = "a" * (srci.LIMIT - 40) + "\U0001f600"
+    data = payload(arguments((b"", value.encode())))
+    told, ran, held = steps(srci.facts, data, 2)
+    assert told == Facts((Section("arguments", 1, pairs=(Pair("", value),)),), 0) and ran < 2000
+    # the public copy, and the text five times
+    assert held < 6 * len(data) + 200_000, f"{held} bytes were held"
 
 
 def first_lines(text, most):

@@ -1,5 +1,6 @@
 //! The Rust package's facts, names and first lines, under every bound, on payloads made of rows. What is expected is
-//! worked out from the rows that the payload was made of.
+//! worked out from the rows that the payload was made of. It is run with less memory than the rows of the longest payload
+//! would take.
 use srci::Row;
 
 /// Numbers that look random, by a fixed rule.
@@ -160,6 +161,28 @@ fn expect_first_lines(card: &str) {
     }
 }
 
+/// The longest payload of empty pairs, of which only so many are told.
+fn expect_little_at_the_limit() {
+    let count = (srci::LIMIT as u32 - 28) / 2;
+    let header = [
+        srci::LIMIT as u32,
+        1 << 16,
+        srci::LIMIT as u32 - 8,
+        2 << 16,
+        0,
+        2 * count,
+        count,
+    ];
+    let mut payload = header.map(u32::to_le_bytes).concat();
+    payload.resize(srci::LIMIT, 0);
+    assert_eq!(srci::names(&payload, 100).unwrap(), (vec![], 0));
+    let empty = Line::Pair(String::new(), String::new());
+    let (lines, left_out) = told(&payload, 100);
+    assert_eq!(lines[0], Line::Section("arguments", count));
+    assert_eq!(lines[1..], vec![empty; 99]);
+    assert_eq!(left_out, count as usize - 99);
+}
+
 fn main() {
     let mut numbers = Numbers(22);
     for _ in 0..1000 {
@@ -175,6 +198,14 @@ fn main() {
         120
     ];
     expect_first_lines(&srci::card(&srci::write(b"", b"", &sections).unwrap()).unwrap());
+    expect_little_at_the_limit();
+    // characters are counted, and not bytes
+    assert_eq!(srci::first_lines("\u{e9}\u{e9}\n", 3), "\u{e9}\u{e9}\n");
+    let lines = "\u{e9}".repeat(20) + "\n" + &"a".repeat(60);
+    assert_eq!(
+        srci::first_lines(&lines, 44),
+        "\u{e9}".repeat(20) + "\n//   .. 1 more line(s)\n"
+    );
     // what is no payload ends as well: a count that nothing is there for, and an entry of no size
     let mut bytes = srci::write(
         b"",
@@ -209,9 +240,26 @@ fn main() {
     }
     assert_eq!(srci::facts(b"", 1).unwrap_err(), srci::Refusal::Ragged);
     assert_eq!(srci::names(b"", 1).unwrap_err(), srci::Refusal::Ragged);
-    // a refusal shows itself in the same way by both
+    // a refusal shows itself in the same way by both, with its second number
+    for refusal in srci::Refusal::all() {
+        assert_eq!(format!("{refusal:?}"), refusal.to_string());
+    }
+    let lacking = srci::Refusal::NoRoom(5);
     assert_eq!(
-        format!("{:?}", srci::Refusal::Ragged),
-        srci::Refusal::Ragged.to_string()
+        lacking.to_string(),
+        "19, no room: The output is too short. (bytes needed: 5)"
     );
+    // what is left out is not shown either
+    let mut pairs = vec![
+        Row {
+            tag: Row::PAIR,
+            ..Row::default()
+        };
+        1000
+    ];
+    pairs[0].tag = Row::ARGUMENTS;
+    let facts = srci::facts(&srci::write(b"", b"", &pairs).unwrap(), 2).unwrap();
+    for section in facts.sections() {
+        assert!(format!("{section:?}").len() < 200, "{section:?}");
+    }
 }

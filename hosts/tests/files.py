@@ -61,8 +61,17 @@ def test_an_output_that_exists(folder):
     for special in (pipe, folder, f"{folder}/", f"{folder}/.", f"{folder}/..", "/", "/dev/null"):
         fails(3, "no regular file", "public-copy", file, special, "--force")
     assert stat.S_ISFIFO(pipe.stat().st_mode) and stat.S_ISCHR(os.stat("/dev/null").st_mode)
-    for none in ("none/out", "none/", "none/..", "out/", "out/none", "nowhere/", "", "n" * 256):
+    for none in ("none/out", "none/", "none/..", "out/", "out/none", "nowhere/", "nowhere/out", "n" * 256):
         fails(3, "cannot write", "public-copy", file, none, "--force", cwd=folder)
+    fails(3, "no name of a file", "public-copy", file, "", "--force")
+    # links that lead in a circle, and a long way
+    for name, to in [("circle", "circle"), ("l0", "out"), *((f"l{n + 1}", f"l{n}") for n in range(40))]:
+        (folder / name).symlink_to(to)
+    prints("", "public-copy", file, folder / "l39", "--force")
+    for name in ("circle", "circle/out", "l40"):
+        fails(3, "links", "public-copy", file, folder / name, "--force")
+    for name in ["circle", *(f"l{n}" for n in range(41))]:
+        (folder / name).unlink()
     assert sorted(os.listdir(folder)) == ["link", "nowhere", "out", "payload", "pipe"]
 
 
@@ -111,9 +120,11 @@ def test_calls_at_once(folder):
         assert sorted(call.wait() for call in calls) == [0] + [3] * 39
         assert sorted(os.listdir(folder)) == ["out", "payload"]
         out.unlink()
+    # none replaces what another has made since it looked
     for _ in range(5):
-        calls = [start("public-copy", file, out, "--force") for _ in range(20)]
-        assert [call.wait() for call in calls] == [0] * 20
+        calls = [start("public-copy", file, out, "--force", stderr=subprocess.DEVNULL) for _ in range(20)]
+        statuses = [call.wait() for call in calls]
+        assert 0 in statuses and {*statuses} <= {0, 3}
         assert sorted(os.listdir(folder)) == ["out", "payload"] and out.read_bytes() == COPY
         out.unlink()
 
@@ -231,11 +242,10 @@ def test_an_interrupted_write(folder):
     file, copy = large(folder)
     out = folder / "out"
     out.write_bytes(b"old")
-    # the signal kills the command in the middle of the write
+    # the signal ends the command in the middle of the write
     _, _, status = run("public-copy", file, out, "--force", preexec_fn=limit_files)
     assert status == -signal.SIGXFSZ and out.read_bytes() == b"old"
-    left = [name for name in os.listdir(folder) if name not in ("out", "payload")]
-    assert len(left) == 1 and left[0].startswith(".srci-")
+    assert sorted(os.listdir(folder)) == ["out", "payload"]
     # killed at any time
     began = time.monotonic()
     prints("", "public-copy", file, folder / "whole")

@@ -4,8 +4,11 @@ import ctypes
 import os
 import signal
 import subprocess
+import threading
 
 from calling import start
+
+PATIENCE = 60  # seconds; a call that takes longer hangs
 
 TRACE_ME, PEEK, POKE, NEXT_CALL, SET_OPTIONS = 0, 3, 6, 24, 0x4200
 TELL_CALLS_FROM_SIGNALS, END_WITH_TRACER = 1, 1 << 20
@@ -33,6 +36,15 @@ def step(act, *words, preexec_fn=lambda: None, **options):
         _ptrace(TRACE_ME, 0)
 
     call = start(*words, preexec_fn=before, **{"stderr": subprocess.DEVNULL, **options})
+    late = threading.Timer(PATIENCE, call.kill)
+    late.start()
+    try:
+        return _go_on(call, act)
+    finally:
+        late.cancel()
+
+
+def _go_on(call, act):
     process = call.pid
     os.waitpid(process, 0)
     _ptrace(SET_OPTIONS, process, data=TELL_CALLS_FROM_SIGNALS | END_WITH_TRACER)

@@ -33,6 +33,9 @@ IN_ARCHIVE = {
     "share/man/man1/srci.1": 0o644,
 }
 FILES = {f"{NAME}/{path}": mode for path, mode in IN_ARCHIVE.items()}
+# those that this system has
+LICENCES = {f"{NAME}/share/doc/srci/licences/{name}": 0o644
+            for name in ("COPYRIGHT-library.html", "MIT.txt", "Apache-2.0.txt", "LGPL-2.1")}
 LINKS = {f"{NAME}/lib/libsrci.so": SONAME, f"{NAME}/lib/{SONAME}": f"libsrci.so.{VERSION}"}
 FOLDERS = {str(parent): 0o755 for path in FILES for parent in pathlib.Path(path).parents if parent.name}
 
@@ -64,7 +67,23 @@ def check_entries(archive):
     for name, entry in entries.items():
         found[entry.type][name] = entry.linkname if entry.issym() else entry.mode
         assert (entry.uid, entry.gid, entry.uname, entry.gname, entry.mtime) == (0, 0, "", "", 315532800), name
-    assert [*found.values()] == [FOLDERS, FILES, LINKS], found
+    folders, files, links = found.values()
+    licences = {name: files.pop(name) for name in {*files} & {*LICENCES}}
+    if licences:
+        folders.pop(f"{NAME}/share/doc/srci/licences")
+    assert [folders, files, links] == [FOLDERS, FILES, LINKS], found
+    tell("names, modes and owners in the archive")
+    tell("licences of what is in the command", None if licences == LICENCES else "this system has not all texts")
+
+
+def check_contents(root):
+    """What is installed is what was built."""
+    sources = {path: BUILT / path for path in IN_ARCHIVE if (BUILT / path).exists()}
+    sources["share/doc/srci/NOTICE"] = ROOT / "NOTICE"
+    sources["share/doc/srci/README.md"] = ROOT / "hosts/package.md"
+    assert {*IN_ARCHIVE} - {*sources} == {"lib/pkgconfig/srci.pc"}
+    for path, source in sources.items():
+        assert (root / "usr/local" / path).read_bytes() == source.read_bytes(), path
 
 
 def readme_commands():
@@ -155,8 +174,9 @@ def main(folder):
     assert first[0][4:8] == bytes(4), "the archive tells when it was made"
     tell("two makings are the same bytes")
     check_entries(folder / "first" / f"{NAME}.tar.gz")
-    tell("names, modes and owners in the archive")
     root = install(folder / "first")
+    check_contents(root)
+    tell("what is installed is what was built")
     tell("the command in an empty root", try_in_root(root))
     check_soname(root)
     tell("the shared library's name and functions")

@@ -1,4 +1,5 @@
-"""Users and groups made up for the tests, what they can read, and ACLs. Only root can be all of them."""
+"""Users and groups made up for the tests, what they can read, ACLs, and containers. Only root can be all of them."""
+import ctypes
 import errno
 import os
 import stat
@@ -6,6 +7,7 @@ import struct
 from typing import NamedTuple, Tuple
 
 TEAM, USERS = 60_001, 60_002
+NEW_USERS = 0x10000000
 ACL, DEFAULT_ACL = "system.posix_acl_access", "system.posix_acl_default"
 
 
@@ -35,6 +37,40 @@ PEOPLE = [
     Person(50_007, 60_017),
 ]
 NAMED = PEOPLE[-1]
+
+
+def enter_container(person, users, groups):
+    """Makes this process that of a person in a user namespace. Its maps tell which number in it stands for which outside;
+    all others are shown as 65534."""
+    go_on, ask = os.pipe()
+    inside = os.getpid()
+    # only who is outside may map others than himself
+    outside = os.fork()
+    if outside == 0:
+        os.read(go_on, 1)
+        for file, numbers in [("uid_map", users), ("gid_map", groups)]:
+            with open(f"/proc/{inside}/{file}", "w") as lines:
+                lines.write("".join(f"{number} {other} 1\n" for number, other in numbers.items()))
+        os._exit(0)
+    os.setgroups(person.groups)
+    os.setgid(person.group)
+    os.setuid(person.user)
+    if ctypes.CDLL(None, use_errno=True).unshare(NEW_USERS):
+        raise OSError(ctypes.get_errno(), "unshare")
+    os.write(ask, b" ")
+    assert os.waitpid(outside, 0)[1] == 0
+
+
+def has_containers():
+    """Whether a process can enter one here."""
+    process = os.fork()
+    if process == 0:
+        try:
+            enter_container(MEMBER, {0: MEMBER.user}, {0: MEMBER.group})
+            os._exit(0)
+        finally:
+            os._exit(1)
+    return os.waitpid(process, 0)[1] == 0
 
 
 def access(path):

@@ -62,12 +62,16 @@ def built(name, text, compiler, *words):
     return program
 
 
-def expect_card(language, *words):
-    # an example finds by itself what it uses
+def shown(data, *words):
+    """What an example prints, which finds by itself what it uses."""
     alone = {name: value for name, value in os.environ.items() if name != "PYTHONPATH"}
-    with open(PAYLOAD, "rb") as payload:
-        done = subprocess.run(words, stdin=payload, stdout=subprocess.PIPE, cwd=ROOT, env=alone, check=True)
-    assert done.stdout.decode() == CARD, f"{language}: {done.stdout!r}"
+    done = subprocess.run(words, input=data, stdout=subprocess.PIPE, cwd=ROOT, env=alone, check=True)
+    return done.stdout.decode()
+
+
+def expect_card(language, *words):
+    card = shown(PAYLOAD.read_bytes(), *words)
+    assert card == CARD, f"{language}: {card!r}"
     print(f"ok: the example in {language}")
 
 
@@ -78,13 +82,17 @@ archive = BUILT / "lib/libsrci.a"
 words = ["gcc", "-std=c99", "-Wall", "-Wextra", "-Werror"]
 program = built("readme_c.c", C % (includes, indented(rest)), words, archive, f"-I{BUILT}/include")
 expect_card("C", program)
+longest = payload(*[names()] * 65_535)
+assert shown(longest, program) == srci.card(longest)
 
 library = BUILT / "rust/libsrci.rlib"
 link = ["--extern", f"srci={library}", "-L", f"native={BUILT}/lib"]
 program = built("readme_rust.rs", RUST % indented(example("rust")), ["rustc", "--edition", "2021"], *link)
 expect_card("Rust", program)
 
-assert indented(CARD) in (ROOT / "README.md").read_text()
+text = (ROOT / "README.md").read_text()
+assert "hosts/build.sh && build/bin/srci --sample\n" in text and indented(CARD) in text
+assert subprocess.run([BUILT / "bin/srci", "--sample"], capture_output=True, text=True, check=True).stdout == CARD
 print("ok: the card in README.md")
 
 facts = subprocess.run([BUILT / "bin/srci", "facts", PAYLOAD], capture_output=True, text=True, check=True).stdout
@@ -107,6 +115,7 @@ print("ok: the examples in hosts/README.md")
 
 # what README.md says of long cards
 sections = [names()] * 60
-assert len(payload(*sections)) == 1208 and len(srci.card(payload(*sections))) > 2000
-assert round(len(srci.card(payload(*[names()] * 65_535))) / 1e6, 1) == 2.3
+told = f"60 empty sections of names, in a payload of {len(payload(*sections)):,} bytes, make a card of over 2,000"
+assert told in " ".join(text.split()) and len(srci.card(payload(*sections))) > 2000
+assert f"65,535 of them one of {len(srci.card(longest)) / 1e6:.1f} MB" in " ".join(text.split())
 print("ok: the lengths of cards in README.md")

@@ -16,15 +16,16 @@ import time
 from calling import NOBODY, fails, prints, start
 from cases import SAMPLE
 from moments import act_once, answers, call_of, can_step, has_open, step
-from people import ACL, DEFAULT_ACL, MEMBER, NAMED, OUTSIDER, OWNER, OWNER_IN_TEAM, ROOT, TEAM, USERS
-from people import access, acl, acl_of, has_acls, readers
+from people import ACL, DEFAULT_ACL, MEMBER, NAMED, OUTSIDER, OWNER, OWNER_IN_TEAM, PEOPLE, ROOT, TEAM, USERS
+from people import access, acl, acl_of, enter_container, has_acls, has_containers, readers
 from sections import arguments, names, payload
 
 # of the sample
 COPY = payload(names((b"a", 1)), arguments((b"E", b"main")))
 RENAMED = payload(names((b"b", 5)), arguments((b"E", b"main")))
 # numbers of system calls on x86-64
-FLOCK, FCHMOD, FSETXATTR, FGETXATTR, FREMOVEXATTR, LINKAT = 73, 91, 190, 193, 199, 265
+MMAP, BRK, MREMAP, FLOCK, FCHMOD, FSETXATTR, FGETXATTR = 9, 12, 25, 73, 91, 190, 193
+FREMOVEXATTR, RENAMEAT, LINKAT = 199, 264, 265
 # why a test is not run
 NOT_ROOT, NOT_TRACED = "this is not run as root", "processes cannot be traced here"
 
@@ -84,6 +85,17 @@ def test_a_call_that_waits(folder):
     assert file.read_bytes() == RENAMED
 
 
+def test_standard_input_that_is_waited_for(folder):
+    file = folder / "payload"
+    file.write_bytes(SAMPLE)
+    call = start("rename", "-", "a", "b", file, "--force", stdin=subprocess.PIPE)
+    time.sleep(0.3)
+    # others need not wait with it
+    prints("", "rename", file, "a", "c", file, "--force", timeout=5)
+    call.communicate(SAMPLE)
+    assert call.returncode == 0 and file.read_bytes() == RENAMED
+
+
 def test_renames_in_place_at_once(folder):
     file, link = folder / "payload", folder / "link"
     link.symlink_to("payload")
@@ -110,6 +122,21 @@ def test_a_file_that_is_replaced_before_it_is_locked(folder):
     assert file.read_bytes() == payload(names((b"b", 7)))
 
 
+def test_files_are_read_when_they_are_locked(folder):
+    if not can_step():
+        return NOT_TRACED
+    file = folder / "payload"
+
+    def change_before_lock(process):
+        if call_of(process) == FLOCK:
+            file.write_bytes(payload(names((b"a", 7))))
+
+    for job, made in [(["public-copy", file], names((b"a", 1))), (["rename", file, "a", "b"], names((b"b", 7)))]:
+        file.write_bytes(SAMPLE)
+        assert step(change_before_lock, *job, file, "--force") == 0
+        assert file.read_bytes() == payload(made)
+
+
 def test_a_file_that_is_put_there_meanwhile(folder):
     if not can_step():
         return NOT_TRACED
@@ -132,7 +159,8 @@ def test_a_file_that_is_put_there_meanwhile(folder):
     tried = [*tries(b"old", lambda _: new.replace(out), "--force")]
     assert tried == sorted(tried, reverse=True) and tried[0] == (True, True) and 0 < tried.count((True, False)) < 5
     # what is there first stays
-    assert {*tries(None, lambda _: out.exists() or new.replace(out))} == {(True, True), (False, False)}
+    for words in ([], ["--force"]):
+        assert {*tries(None, lambda _: out.exists() or new.replace(out), *words)} == {(True, True), (False, False)}
 
 
 def test_file_systems_that_know_less(folder):
@@ -141,7 +169,7 @@ def test_file_systems_that_know_less(folder):
     file, home = sample_and_home(folder)
     out = home / "out"
 
-    def bits_after(call, *given):
+    def bits_after(call, given):
         """The new file's permission bits, or the exit status of a call that did not replace it."""
         put(out, b"old")
         out.chmod(0o664)
@@ -153,15 +181,81 @@ def test_file_systems_that_know_less(folder):
     assert answers(LINKAT, [-errno.EPERM], "public-copy", file, out) == 0 and out.read_bytes() == COPY
     assert os.listdir(home) == ["out"]
     # no locks, no attributes
-    for error in (errno.ENOLCK, errno.EOPNOTSUPP):
-        assert bits_after(FLOCK, -error) == 0o664
-    assert bits_after(FGETXATTR, -errno.EOPNOTSUPP, -errno.EOPNOTSUPP) == 0o664
-    assert bits_after(FREMOVEXATTR, -errno.EOPNOTSUPP) == 0o664
+    for error in (errno.ENOLCK, errno.EOPNOTSUPP, errno.ENOSYS):
+        assert bits_after(FLOCK, itertools.repeat(-error)) == 0o664
+    # a lock that cannot be asked for, and a file that cannot be renamed
+    assert bits_after(FLOCK, [-errno.EIO]) == bits_after(RENAMEAT, [-errno.EPERM]) == 3
+    assert bits_after(FGETXATTR, itertools.repeat(-errno.EOPNOTSUPP)) == 0o664
+    assert bits_after(FREMOVEXATTR, [-errno.EOPNOTSUPP]) == 0o664
     # an ACL of NFS's own, and one that cannot be looked at
     for given in ([0], [-errno.EIO], [None, -errno.EIO]):
-        assert bits_after(FGETXATTR, *given) == 0o600
+        assert bits_after(FGETXATTR, given) == 0o600
     # an ACL of the folder's that cannot be removed, and bits that cannot be set
-    assert bits_after(FREMOVEXATTR, -errno.EPERM) == bits_after(FCHMOD, -errno.EPERM) == 3
+    assert bits_after(FREMOVEXATTR, [-errno.EPERM]) == bits_after(FCHMOD, [-errno.EPERM]) == 3
+
+
+def test_memory_that_is_lacking_while_a_file_is_written(folder):
+    if not can_step():
+        return NOT_TRACED
+    file, home = sample_and_home(folder)
+    out = home / "out"
+    out.write_bytes(b"old")
+
+    def lacking(process):
+        if temporaries(home):
+            return {MMAP: -errno.ENOMEM, MREMAP: -errno.ENOMEM, BRK: 0}.get(call_of(process))
+        return None
+
+    # with no memory kept for later
+    environment = {"MALLOC_TOP_PAD_": "0", "MALLOC_TRIM_THRESHOLD_": "0"}
+    assert step(lacking, "public-copy", file, out, "--force", env=environment) == 3
+    assert os.listdir(home) == ["out"] and out.read_bytes() == b"old"
+
+
+def test_a_pipe_that_is_put_there_meanwhile(folder):
+    if not can_step():
+        return NOT_TRACED
+    file, home = sample_and_home(folder)
+    out = home / "out"
+
+    def plant(_):
+        out.unlink()
+        os.mkfifo(out)
+
+    words = ["public-copy", file, out, "--force"]
+    tried = [*act_once(lambda: put(out, b"old"), lambda process: has_open(process, out), plant, *words)]
+    # it is neither waited for nor replaced, unless it comes between the last look and the renaming
+    assert {*tried} == {0, 3} and tried == sorted(tried, reverse=True), tried
+
+
+def test_the_bits_of_a_new_file(folder):
+    file, home = sample_and_home(folder)
+    for mask, bits in [(0o027, 0o640), (0o077, 0o600), (0, 0o666)]:
+        prints("", "public-copy", file, home / f"{mask:o}", umask=mask)
+        assert stat.S_IMODE((home / f"{mask:o}").stat().st_mode) == bits
+
+
+def test_a_file_system_that_locks_what_is_open_for_writing(folder):
+    if not can_step():
+        return NOT_TRACED
+    file = folder / "payload"
+    file.write_bytes(SAMPLE)
+    asked = 0
+
+    def answer(process):
+        """As NFS does: a file that is open for reading gets none. The fourth time nobody else has it any more."""
+        nonlocal asked
+        if call_of(process) != FLOCK:
+            return None
+        asked += 1
+        if asked == 4:
+            fcntl.flock(other, fcntl.LOCK_UN)
+        return -errno.EBADF if asked % 2 else None
+
+    with open(file, "rb") as other:
+        fcntl.flock(other, fcntl.LOCK_EX)
+        assert step(answer, "rename", file, "a", "b", file, "--force") == 0
+    assert asked == 4 and file.read_bytes() == RENAMED
 
 
 def test_signals(folder):
@@ -196,6 +290,9 @@ def test_signals(folder):
         assert {*signalled(number, signal.SIG_DFL, old, is_open)} == {(-number, old), (-number, COPY), (0, COPY)}
     for number in (signal.SIGHUP, signal.SIGQUIT):
         assert {*signalled(number, signal.SIG_DFL, b"old", is_written)} == {(-number, b"old"), (-number, COPY)}
+    for name in "USR1 USR2 ALRM XCPU XFSZ VTALRM PROF IO PWR".split():
+        number = signal.Signals[f"SIG{name}"]
+        assert next(signalled(number, signal.SIG_DFL, b"old", is_written)) == (-number, b"old"), name
     assert {*signalled(signal.SIGINT, signal.SIG_IGN, b"old", is_open)} == {(0, COPY)}
 
 
@@ -287,33 +384,61 @@ def test_who_can_read_what_replaces_a_file_with_an_acl(folder):
     assert NAMED in readers(home / "new")
 
 
+def test_who_can_read_what_replaces_a_file_from_a_container(folder):
+    if os.geteuid() != 0 or not has_containers():
+        return NOT_ROOT if os.geteuid() != 0 else "there are no user namespaces here"
+    file, home = sample_and_home(folder)
+    out = home / "out"
+    # new files are of a group whose members could not read the old one; in the container both groups are 65534
+    stranger = PEOPLE[5]
+    os.chown(home, 0, stranger.group)
+    home.chmod(0o2777)
+    # the second has that number for the stranger, so that a file can be given to him
+    for more in ({}, {65534: stranger}):
+        users = {0: MEMBER.user, **{number: person.user for number, person in more.items()}}
+        groups = {0: MEMBER.group, **{number: person.group for number, person in more.items()}}
+        for bits in (0o660, 0o640, 0o644, 0o040, 0o600):
+            put(out, b"old")
+            os.chown(out, OWNER.user, TEAM)
+            out.chmod(bits)
+            could = readers(out)
+            container = {"preexec_fn": lambda: enter_container(MEMBER, users, groups)}
+            prints("", "public-copy", file, out, "--force", **container)
+            gained = {person for person in readers(out) - could if person.user != MEMBER.user}
+            assert not gained and out.read_bytes() == COPY, f"{bits:o}, {users}: {access(out)}, {gained}"
+
+
 def test_links_of_others(folder):
     if os.geteuid() != 0:
         return NOT_ROOT
     file, home = sample_and_home(folder)
     aim, link, to_link = folder / "aim", home / "link", folder / "to link"
     to_link.symlink_to("home/link")
+    way = home / "way"
     # 0o1777 is as /tmp: all may write, and nobody may remove what is another's
     for link_owner, home_owner, bits, follows in [
         (OWNER, ROOT, 0o1777, False),
         (OWNER, MEMBER, 0o1777, False),
         (OWNER, OWNER, 0o1777, True),
         (ROOT, OWNER, 0o1777, True),
-        (OWNER, ROOT, 0o777, True),
+        (OWNER, ROOT, 0o777, False),
         (OWNER, ROOT, 0o1775, True),
     ]:
         os.chown(home, home_owner.user, home_owner.group)
         home.chmod(bits)
-        put(link, None)
-        link.symlink_to("../aim")
-        os.lchown(link, link_owner.user, link_owner.group)
-        for out in (link, to_link):
+        for planted, to in [(link, "../aim"), (way, "..")]:
+            put(planted, None)
+            planted.symlink_to(to)
+            os.lchown(planted, link_owner.user, link_owner.group)
+        # OUT, what OUT leads to, and a folder on the way
+        for out in (link, to_link, way / "aim", way / "to link"):
             put(aim, b"old")
             if follows:
                 prints("", "public-copy", file, out, "--force")
             else:
                 fails(3, "link of another user's", "public-copy", file, out, "--force")
-            assert aim.read_bytes() == (COPY if follows else b"old") and out.is_symlink() and link.is_symlink()
+            assert aim.read_bytes() == (COPY if follows else b"old")
+            assert link.is_symlink() and to_link.is_symlink() and way.is_symlink()
 
 
 class Victim:
@@ -405,7 +530,7 @@ def test_a_folder_that_is_turned_elsewhere(folder):
 
 def test_a_call_that_has_waited(folder):
     out, err = held.call.communicate(timeout=60)
-    assert held.call.returncode == 3 and out == b"" and b"another call is replacing it" in err
+    assert held.call.returncode == 3 and out == b"" and b"another process has locked it" in err
     assert time.monotonic() - held.began >= 10 and held.file.read_bytes() == SAMPLE
     assert os.listdir(held.folder.name) == ["held"]
     held.open.close()

@@ -15,7 +15,7 @@ import subprocess
 from calling import fails, prints, run, run_tests, start
 from cases import SAMPLE, SAMPLE_PRINTED
 from sections import arguments, names, payload
-from srci import REFUSALS, __version__
+from srci import REFUSALS, Refused, __version__
 
 COMMANDS = {
     "card": "FILE.. [--named]",
@@ -81,6 +81,7 @@ def test_words_that_are_mistyped(folder):
                         ("--verison", "--version"), ("hepl", "help")]:
         fails(2, f"did you mean '{meant}'?", word, "-")
     fails(2, "did you mean '--force'?", "rename", "--froce", "-", "a", "b", "-")
+    fails(2, "a word after -- is no option", "rename", "-", "a", "-name.hlsl", "-")
     for words in (["nothing", "-"], ["x", "-"], ["public", "-"], ["rows", "--x", "-"], ["r" * 100_000]):
         assert b"mean" not in run(*words)[1]
 
@@ -123,11 +124,7 @@ def test_several_files(folder):
         out, _, status = run(command, "--json", *files)
         assert status == 3
         one = [json.loads(run(command, "--json", file)[0]) for file in (files[0], files[3])]
-        decoder, text, found = json.JSONDecoder(), out.decode(), []
-        while text:
-            value, end = decoder.raw_decode(text)
-            found.append(value)
-            text = text[end:].lstrip()
+        found = [json.loads(line) for line in out.decode().splitlines()]
         assert found == [{"file": str(files[0]), command: one[0]}, {"file": str(files[3]), command: one[1]}]
 
 
@@ -199,8 +196,9 @@ def test_columns_of_several_files(folder):
     for file, name in zip(files, (b"sky.hlsl", b"a longer name.hlsl")):
         file.write_bytes(payload(names((name, 1))))
     lines = at_a_terminal("facts", *files).splitlines()
+    # behind a space: the files' own names are before
     starts = [[line.index(word) for line, word in zip(lines, words)] for words in (
-        ["section", "0", "0", "0", "0"], ["fact", "names", "name ", "names", "name "])]
+        [" section", " 0", " 0", " 0", " 0"], [" fact", " names", " name ", " names", " name "])]
     assert len(lines) == 5 and all(len({*column}) == 1 for column in starts), lines
 
 
@@ -269,16 +267,17 @@ def test_the_manual_page(folder):
     if shutil.which("groff") is None:
         print("not tested: how the manual's page looks, since there is no groff")
         return
-    shown = ["groff", "-man", "-Tutf8", "-P-cbou", "-ww", page]
+    # no word is broken at the end of a line
+    shown = ["groff", "-man", "-Tutf8", "-P-cbou", "-ww", "-rHY=0", page]
     done = subprocess.run(shown, capture_output=True, text=True, check=True)
     assert done.stderr == "", done.stderr
-    words = " ".join(done.stdout.replace("\u2010\n", "").split())
-    for command, operands in COMMANDS.items():
-        assert f"srci {command} {operands}" in words
+    words = " ".join(done.stdout.replace("\u2019", "'").split())
+    for command in COMMANDS:
+        for paragraph in printed("help", command).split("\n\n"):
+            paragraph = re.sub(r"^(usage|Does|Exit status):", "", paragraph)
+            assert " ".join(paragraph.split()) in words, f"{command}: {paragraph}"
     for number, name in enumerate(REFUSALS, 1):
-        assert f"{number}, {name}" in words.replace("\u2019", "'"), name
-    for text in (r"are \t, \n, \r and \\; other", "B start, C length, D count, E uncompressed", "--merge renames"):
-        assert text in words, text
+        assert f"{number}, {name} {Refused(number).meaning}" in words, name
 
 
 run_tests(globals())

@@ -16,7 +16,7 @@ import zipfile
 
 ROOT = pathlib.Path(__file__).resolve().parents[2]
 SOURCES = ROOT / "hosts/python"
-LIBRARY = ROOT / "build/python/srci/libsrci.so"
+BUILT = ROOT / "build/python/srci"
 VERSION = (ROOT / "hosts/tables/version.txt").read_text().strip()
 WHEEL = pathlib.Path(sys.argv[1]).resolve()
 INFO = f"srci-{VERSION}.dist-info"
@@ -45,7 +45,7 @@ def has(module):
 def test_what_is_packed(folder):
     expected = {f"srci/{file.name}": file.read_bytes() for file in (SOURCES / "srci").glob("*.py")}
     expected["srci/py.typed"] = (SOURCES / "srci/py.typed").read_bytes()
-    expected["srci/libsrci.so"] = LIBRARY.read_bytes()
+    expected["srci/libsrci.so"] = (BUILT / "libsrci.so").read_bytes()
     assert len(expected) > 5
     expected[f"{INFO}/licenses/NOTICE"] = (ROOT / "NOTICE").read_bytes()
     made = {f"{INFO}/{name}" for name in ("METADATA", "WHEEL", "RECORD")}

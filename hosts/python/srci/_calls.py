@@ -9,14 +9,13 @@ the caller's own: nobody else may write to them during a call.
 """
 from __future__ import annotations
 
-import contextlib
 import ctypes
 import pathlib
-from collections.abc import Callable, Generator
-from typing import TYPE_CHECKING, Any
+from collections.abc import Callable
+from typing import TYPE_CHECKING, Any, NamedTuple
 
 if TYPE_CHECKING:
-    from typing_extensions import Buffer
+    from _typeshed import ReadableBuffer as Buffer
 
 _PATH = pathlib.Path(__file__).with_name("libsrci.so")
 if not _PATH.exists():
@@ -87,46 +86,47 @@ _release_buffer.restype = None
 # What a pointer leads to whose buffer has no bytes and may have no place either.
 _NOTHING = ctypes.c_uint32()
 
-# A place and a length, while an object's bytes are lent.
-_Lent = contextlib.AbstractContextManager[tuple[int, int]]
+
+class _Slice(NamedTuple):
+    """What is lent for a slice: an object, how its buffer is asked for, and the bytes of an element."""
+
+    owner: Buffer
+    flags: int
+    size: int
 
 
-@contextlib.contextmanager
-def _lent(owner: Buffer, flags: int, size: int) -> Generator[tuple[int, int], None, None]:
-    """The place of an object's bytes, and how many elements of a size they are; they stay there until it is left."""
-    view = _Buffer()
-    place = ctypes.byref(view)
-    try:
-        _get_buffer(owner, place, flags)
-        yield view.buf or ctypes.addressof(_NOTHING), view.len // size
-    finally:
-        _release_buffer(place)  # does nothing to a view that was not got
+def _bytes(owner: Buffer) -> _Slice:
+    return _Slice(owner, _SIMPLE, 1)
 
 
-def _bytes(owner: Buffer) -> _Lent:
-    return _lent(owner, _SIMPLE, 1)
+def _output(owner: Buffer) -> _Slice:
+    return _Slice(owner, _WRITABLE, 1)
 
 
-def _output(owner: Buffer) -> _Lent:
-    return _lent(owner, _WRITABLE, 1)
-
-
-def _call(entry: Callable[..., int], *slices: _Lent) -> tuple[int, int]:
+def _call(entry: Callable[..., int], *slices: _Slice) -> tuple[int, int]:
     second = ctypes.c_uint32()
-    with contextlib.ExitStack() as stack:
-        words = [word for lent in slices for word in stack.enter_context(lent)]
-        number = entry(*words, ctypes.byref(second))
+    words: list[int] = []
+    # all before the first is filled, so that whatever interrupts a call gives back each that is
+    views = [_Buffer() for _ in slices]
+    try:
+        for view, (owner, flags, size) in zip(views, slices):
+            _get_buffer(owner, view, flags)
+            words += view.buf or ctypes.addressof(_NOTHING), view.len // size
+        number = entry(*words, second)
+    finally:
+        for view in views:
+            _release_buffer(view)  # does nothing to one that was not filled
     return number, second.value
 
 
 def read(payload: Buffer, rows: Buffer) -> tuple[int, int]:
     """Reads a payload into an array of unsigned 32-bit numbers."""
-    return _call(_srci_read.reading(payload), _bytes(payload), _lent(rows, _WRITABLE, 4))
+    return _call(_srci_read.reading(payload), _bytes(payload), _Slice(rows, _WRITABLE, 4))
 
 
 def write(payload: Buffer, edit: Buffer, rows: Buffer, output: Buffer) -> tuple[int, int]:
     """Writes the rows in such an array, whose texts lie in a payload and an edit text."""
-    slices = (_bytes(payload), _bytes(edit), _lent(rows, _SIMPLE, 4), _output(output))
+    slices = (_bytes(payload), _bytes(edit), _Slice(rows, _SIMPLE, 4), _output(output))
     return _call(_srci_write.reading(payload, edit), *slices)
 
 

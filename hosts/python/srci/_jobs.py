@@ -8,7 +8,7 @@ from ._refused import REFUSALS, Refused
 from ._rows import Row, Rows
 
 if TYPE_CHECKING:
-    from typing_extensions import Buffer
+    from _typeshed import ReadableBuffer as Buffer
 
 _NO_ROWS, _NO_ROOM = (1 + REFUSALS.index(name) for name in ("no rows", "no room"))
 _WIDTH = len(Row._fields)

@@ -2,7 +2,7 @@
 from ._tables import REFUSALS as _TABLE
 
 # The names of the refusals, by their numbers from 1.
-REFUSALS = tuple(name for name, _ in _TABLE)
+REFUSALS = tuple(name for name, _, _ in _TABLE)
 
 
 class Refused(Exception):
@@ -24,8 +24,10 @@ class Refused(Exception):
             raise ValueError(f"{number} is no refusal: they are numbered from 1 to {len(_TABLE)}")
         super().__init__(number, second)
         self.number = number
-        self.name, self.meaning = _TABLE[number - 1]
+        self.name, self.meaning, _ = _TABLE[number - 1]
         self.second = second
 
     def __str__(self) -> str:
-        return f"refused {self.number}, {self.name}: {self.meaning}"
+        _, _, second = _TABLE[self.number - 1]
+        more = f" ({second}: {self.second})" if second else ""
+        return f"refused {self.number}, {self.name}: {self.meaning}{more}"

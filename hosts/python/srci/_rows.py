@@ -8,7 +8,7 @@ from typing import TYPE_CHECKING, NamedTuple, Optional, Union, overload
 from ._tables import ROWS, Tag
 
 if TYPE_CHECKING:
-    from typing_extensions import Buffer
+    from _typeshed import ReadableBuffer as Buffer
 
 
 class Side(IntEnum):

@@ -1,4 +1,5 @@
 //! The sections of a payload, found by their sizes alone.
+use std::fmt::{self, Debug, Formatter};
 
 /// A section of a payload.
 #[derive(Clone, Copy, Debug, PartialEq, Eq)]
@@ -103,7 +104,7 @@ impl<'a> Frame<'a> {
 }
 
 /// The names of a section.
-#[derive(Clone, Debug, Default)]
+#[derive(Clone, Default)]
 pub struct Names<'a> {
     entries: &'a [u8],
     left: u32,
@@ -125,7 +126,7 @@ impl<'a> Iterator for Names<'a> {
 }
 
 /// The pairs of a section: each name with its value.
-#[derive(Clone, Debug, Default)]
+#[derive(Clone, Default)]
 pub struct Pairs<'a> {
     texts: &'a [u8],
     left: u32,
@@ -146,6 +147,20 @@ impl<'a> Pairs<'a> {
         let text = &self.texts[..end];
         self.texts = &self.texts[end + 1..];
         Some(utf8(text))
+    }
+}
+
+// Neither shows the bytes that it goes over, which can be millions.
+
+impl Debug for Names<'_> {
+    fn fmt(&self, f: &mut Formatter) -> fmt::Result {
+        write!(f, "Names({} left)", self.left)
+    }
+}
+
+impl Debug for Pairs<'_> {
+    fn fmt(&self, f: &mut Formatter) -> fmt::Result {
+        write!(f, "Pairs({} left)", self.left)
     }
 }
 

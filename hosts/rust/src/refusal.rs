@@ -115,11 +115,16 @@ impl Refusal {
     }
 }
 
-/// The number, the name, and what it means.
+/// The number, the name, what it means, and the second number where it has one.
 impl Display for Refusal {
     fn fmt(&self, f: &mut Formatter) -> Result {
-        let (number, name, meaning) = (self.number(), self.name(), self.meaning());
-        write!(f, "{number}, {name}: {meaning}")
+        let number = self.number();
+        let (name, meaning, second) = REFUSALS[number as usize - 1];
+        write!(f, "{number}, {name}: {meaning}")?;
+        match second {
+            "" => Ok(()),
+            _ => write!(f, " ({second}: {})", self.second()),
+        }
     }
 }
 
