@@ -35,8 +35,9 @@ told_by() {
 [ "$(uname -sm)" = "Linux x86_64" ] || lacking "this is $(uname -sm), and the library is compiled for Linux x86_64"
 kit=$(told_by rt --version) && [[ $kit == rattle* ]] || lacking \
     "it needs rt, the command of the Rattle kit; here is ${kit:-none that runs}." \
-    "rt and the library that it proves with come with the kit, a folder with bin/, docs/ and logic/." \
-    "Put its bin/ on PATH; 'rt --version' then prints the kit's name."
+    "rt comes with the kit, a folder with bin/, docs/ and logic/, from those who make Rattle." \
+    "Put its bin/ on PATH; 'rt --version' then prints the kit's name." \
+    "Without it, use what hosts/package.sh has made where there is one."
 gcc=$(told_by gcc --version) || lacking \
     "it needs gcc; here is none that runs." \
     "It comes with the system's packages."

@@ -7,8 +7,8 @@ use std::ffi::{CStr, CString, OsStr, OsString};
 use std::fs::File;
 use std::io::{self, IsTerminal, Write};
 
-/// Where a result goes, found before what it is made from is read. A file that is to be replaced is locked until the
-/// result is there: of calls at once that rename in place, each reads what the one before has written.
+/// Where a result goes. A file that is to be replaced is locked until the result is there: of calls at once that rename
+/// in place, each reads what the one before has written.
 pub struct Output(To);
 
 enum To {

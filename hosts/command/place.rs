@@ -31,7 +31,7 @@ impl Place {
             Err(error) => return Err(error),
         }
         let mut folder = beginning(out.as_bytes())?;
-        let mut parts = parts(out.as_bytes())?;
+        let mut parts = parts_of(out.as_bytes())?;
         let (mut links, mut is_link) = (0, false);
         while let Some(name) = parts.pop() {
             let is_last = parts.is_empty();
@@ -50,7 +50,7 @@ impl Place {
                 if path.as_bytes().starts_with(b"/") {
                     folder = beginning(path.as_bytes())?;
                 }
-                parts.extend(self::parts(path.as_bytes())?);
+                parts.extend(parts_of(path.as_bytes())?);
                 is_link |= is_last;
                 links += 1;
                 if links > MOST_LINKS {
@@ -142,7 +142,7 @@ fn beginning(path: &[u8]) -> io::Result<File> {
 }
 
 /// The parts of a path, the last one first. What ends in a slash is a folder, and so its last part is that folder itself.
-fn parts(path: &[u8]) -> io::Result<Vec<CString>> {
+fn parts_of(path: &[u8]) -> io::Result<Vec<CString>> {
     let end = path.ends_with(b"/").then_some(&b"."[..]);
     let names = path
         .split(|byte| *byte == b'/')
