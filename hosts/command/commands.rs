@@ -151,9 +151,10 @@ const OUT: Shared = Shared {
     text: "\
 OUT is written under another name beside its place, .srci-*.tmp, and then put there whole. A file
 that is there already is replaced only with --force, and where OUT is a link, what it leads to. It is
-locked (as by flock) while FILE is read and it is replaced; a call that finds it locked waits up to
-ten seconds, and then ends with 3. The new file keeps owner, group, permissions and ACL of the old
-one as far as the caller may set them; where they cannot be kept, others lose what these gave them.
+locked (as by flock) from before FILE is read, unless that is a stream; a call that finds it locked
+waits up to ten seconds, and then ends with 3. The new file keeps owner, group, permissions and ACL
+of the old one as far as the caller may set them; where they cannot be kept, others lose what these
+gave them.
 ",
 };
 

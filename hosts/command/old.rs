@@ -12,7 +12,7 @@
 //! The bits for set-user-ID, set-group-ID and sticky are not kept.
 use crate::system;
 use std::ffi::CStr;
-use std::fs::{self, File, Permissions};
+use std::fs::{File, Permissions};
 use std::io;
 use std::os::unix::fs::{fchown, MetadataExt, PermissionsExt};
 
@@ -45,10 +45,8 @@ impl Old {
         // it may have come by the folder's default
         system::remove_attribute(new, ACL)?;
         // the group first, which is no longer to be set once the file is another's
-        let group =
-            is_known(old.gid(), "/proc/self/gid_map") && fchown(new, None, Some(old.gid())).is_ok();
-        let owner =
-            is_known(old.uid(), "/proc/self/uid_map") && fchown(new, Some(old.uid()), None).is_ok();
+        let group = system::is_known_group(old.gid()) && fchown(new, None, Some(old.gid())).is_ok();
+        let owner = system::is_known_user(old.uid()) && fchown(new, Some(old.uid()), None).is_ok();
         Ok(Kept { owner, group })
     }
 
@@ -75,12 +73,6 @@ impl Old {
             Err(_) => false,
         }
     }
-}
-
-/// Whether a number stands for one user or group. In a container all that its map does not have are shown by this one.
-fn is_known(number: u32, map: &str) -> bool {
-    let has_all = |map: String| map.split_whitespace().eq(["0", "0", "4294967295"]);
-    number != 65_534 || fs::read_to_string(map).is_ok_and(has_all)
 }
 
 fn shared_bits(old: u32, kept: &Kept, has_acl: bool) -> u32 {

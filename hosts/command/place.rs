@@ -1,5 +1,5 @@
-//! The place that OUT leads to: a name in a folder that is open. Once it is found nothing follows a link, nor goes by a
-//! path, which others could turn elsewhere.
+//! The place that OUT leads to: a name in a folder that is open. Once it is found nothing is opened or put anywhere by a
+//! path or a link, which others could turn elsewhere.
 use crate::old::Old;
 use crate::system::{self, Lock};
 use std::ffi::{CStr, CString, OsStr};
@@ -24,7 +24,6 @@ pub struct Place {
 impl Place {
     /// Follows OUT part by part. Each link is read from what was opened, and not by its name once more.
     pub fn find(out: &OsStr) -> io::Result<Place> {
-        // the system's own answer first: of a link in /proc it knows more than the link's text tells
         match fs::metadata(out) {
             Ok(there) => refuse_special(&there)?,
             Err(error) if error.kind() == ErrorKind::NotFound => (),
@@ -32,15 +31,19 @@ impl Place {
         }
         let mut folder = beginning(out.as_bytes())?;
         let mut parts = parts_of(out.as_bytes())?;
-        let (mut links, mut is_link) = (0, false);
+        let (mut links, mut last_was_link) = (0, false);
         while let Some(name) = parts.pop() {
             let is_last = parts.is_empty();
             let there = match look(&folder, &name) {
-                Err(error) if error.kind() == ErrorKind::NotFound && is_link => {
+                Err(error) if error.kind() == ErrorKind::NotFound && last_was_link => {
                     return Err(io::Error::other("it is a link to nothing"));
                 }
                 Err(error) if error.kind() == ErrorKind::NotFound && is_last => {
-                    return Ok(Place { folder, name });
+                    let own = fs::metadata(folder_of(out))?;
+                    return match is_same(&own, &folder)? {
+                        true => Ok(Place { folder, name }),
+                        false => Err(elsewhere()),
+                    };
                 }
                 there => there?,
             };
@@ -51,7 +54,7 @@ impl Place {
                     folder = beginning(path.as_bytes())?;
                 }
                 parts.extend(parts_of(path.as_bytes())?);
-                is_link |= is_last;
+                last_was_link |= is_last;
                 links += 1;
                 if links > MOST_LINKS {
                     return Err(io::Error::other("it has too many links"));
@@ -125,11 +128,10 @@ impl Place {
                 Lock::OfWriters => (),
             }
         }
-        // what a link in /proc leads to is not where its text does, if that file was replaced
         let is_out = fs::metadata(out).map_or(Ok(false), |there| is_same(&there, &file))?;
         match self.leads_to(&file)? {
             true if is_out => Ok(Some(Old { file, readable })),
-            true => Err(io::Error::other("it leads elsewhere than a moment ago")),
+            true => Err(elsewhere()),
             false => Ok(None),
         }
     }
@@ -139,6 +141,21 @@ impl Place {
 fn beginning(path: &[u8]) -> io::Result<File> {
     let name = if path.starts_with(b"/") { c"/" } else { c"." };
     system::open_at(None, name, system::LOOK | system::FOLDER)
+}
+
+/// The folder of OUT, as the system finds it.
+fn folder_of(out: &OsStr) -> &OsStr {
+    let out = out.as_bytes();
+    match out.iter().rposition(|byte| *byte == b'/') {
+        Some(slash) => OsStr::from_bytes(&out[..=slash]),
+        None => OsStr::new("."),
+    }
+}
+
+/// The system's own answer is another than the links' texts give. So it is with links in /proc to what was removed, or is
+/// in a container.
+fn elsewhere() -> io::Error {
+    io::Error::other("it leads elsewhere than its links say")
 }
 
 /// The parts of a path, the last one first. What ends in a slash is a folder, and so its last part is that folder itself.
@@ -165,7 +182,8 @@ fn look(folder: &File, name: &CStr) -> io::Result<File> {
 fn refuse_planted(folder: &File, link: &File) -> io::Result<()> {
     let (folder, owner) = (folder.metadata()?, link.metadata()?.uid());
     let is_shared = folder.mode() & 0o002 != 0;
-    if is_shared && owner != system::user() && owner != folder.uid() {
+    let is_trusted = owner == system::user() || owner == folder.uid();
+    if is_shared && !(is_trusted && system::is_known_user(owner)) {
         return Err(io::Error::other(
             "it leads through a link of another user's, in a folder where all may write",
         ));

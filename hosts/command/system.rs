@@ -3,7 +3,7 @@
 //! safe functions, with the numbers of Linux on x86-64.
 use std::collections::hash_map::RandomState;
 use std::ffi::{c_char, c_int, c_uint, c_void, CStr, CString};
-use std::fs::File;
+use std::fs::{self, File};
 use std::hash::{BuildHasher, Hasher};
 use std::io;
 use std::mem;
@@ -116,6 +116,22 @@ pub fn rename_at(folder: &File, old: &CStr, new: &CStr) -> io::Result<()> {
 pub fn user() -> u32 {
     // SAFETY: it cannot fail
     unsafe { geteuid() }
+}
+
+/// Whether a user's number stands for one user.
+pub fn is_known_user(number: u32) -> bool {
+    is_known(number, "/proc/self/uid_map")
+}
+
+/// Whether a group's number stands for one group.
+pub fn is_known_group(number: u32) -> bool {
+    is_known(number, "/proc/self/gid_map")
+}
+
+/// In a container all users that its map does not have are shown by one number, and so are all groups.
+fn is_known(number: u32, map: &str) -> bool {
+    let has_all = |map: String| map.split_whitespace().eq(["0", "0", "4294967295"]);
+    number != 65_534 || fs::read_to_string(map).is_ok_and(has_all)
 }
 
 // ---- attributes of an open file
@@ -268,7 +284,7 @@ fn remove_before(signal: c_int) -> io::Result<()> {
 
 extern "C" fn remove_and_end(signal: c_int) {
     remove_temporary();
-    // the signal has its own way back, and goes it when this function is left
+    // ONCE has restored what the signal does by itself, and that is done when this function is left
     // SAFETY: it can be called in a handler
     unsafe { raise(signal) };
 }

@@ -1,4 +1,5 @@
 """Calls of the command, for the tests that run it: what it prints, what it says, and its exit status."""
+import functools
 import os
 import pathlib
 import shutil
@@ -36,15 +37,37 @@ def fails(status, said, *words, **options):
     assert b"panicked" not in err
 
 
+@functools.lru_cache(None)
+def can_be_others():
+    """Whether this is root, who can be every user, as one in a container cannot always."""
+    if os.geteuid() != 0:
+        return False
+    with tempfile.NamedTemporaryFile() as file:
+        try:
+            os.chown(file.name, NOBODY, NOBODY)
+        except OSError:
+            return False
+    return True
+
+
+class NotHere(Exception):
+    """Why a test cannot run here."""
+
+
 def as_nobody():
-    """Root may do what the owner may not."""
-    return {"user": NOBODY, "group": NOBODY} if os.geteuid() == 0 else {}
+    """For a call of somebody who may not do everything, as root may."""
+    if os.geteuid() != 0:
+        return {}
+    if not can_be_others():
+        raise NotHere("root is the only user in this container")
+    return {"user": NOBODY, "group": NOBODY}
 
 
 def run_tests(tests):
     """Runs the functions of these whose names begin with `test_`, each with an empty folder. One that cannot run here
-    answers why."""
+    answers why, or raises it."""
     global _command
+    os.umask(0o022)
     with tempfile.TemporaryDirectory() as programs:
         # a copy that any user can reach, who may not reach the tree
         os.chmod(programs, 0o755)
@@ -53,6 +76,9 @@ def run_tests(tests):
             if name.startswith("test_"):
                 with tempfile.TemporaryDirectory() as folder:
                     os.chmod(folder, 0o755)
-                    why_not = test(pathlib.Path(folder))
+                    try:
+                        why_not = test(pathlib.Path(folder))
+                    except NotHere as reason:
+                        why_not = reason
                 what = name[5:].replace("_", " ")
                 print(f"not tested: {what}, since {why_not}" if why_not else f"ok: {what}", flush=True)

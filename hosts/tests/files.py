@@ -16,8 +16,9 @@ import time
 import tty
 
 import replacing
-from calling import NOBODY, as_nobody, fails, prints, run, run_tests, start
+from calling import as_nobody, can_be_others, fails, prints, run, run_tests, start
 from cases import SAMPLE
+from people import OWNER
 from replacing import COPY, RENAMED, put
 from sections import arguments, payload, unknown
 
@@ -40,8 +41,8 @@ def test_an_output_that_exists(folder):
     for words in (["public-copy", file], ["rename", file, "a", "b"]):
         fails(3, "--force", *words, out)
         assert out.read_bytes() == b"old"
-    if os.geteuid() == 0:
-        os.chown(out, NOBODY, NOBODY)
+    if can_be_others():
+        os.chown(out, OWNER.user, OWNER.group)
     owner = out.stat().st_uid
     prints("", "public-copy", file, out, "--force")
     assert out.read_bytes() == COPY and stat.S_IMODE(out.stat().st_mode) == 0o640 and out.stat().st_uid == owner
@@ -110,6 +111,25 @@ def test_an_output_by_its_descriptor(folder):
             assert sorted(os.listdir(folder)) == left
             other.write_bytes(b"other")
         assert other.read_bytes() == b"other"
+
+
+def test_an_output_by_the_descriptor_of_its_folder(folder):
+    file, home, other = folder / "payload", folder / "home", folder / "home (deleted)"
+    file.write_bytes(SAMPLE)
+    home.mkdir()
+    opened = os.open(home, os.O_RDONLY)
+    out = f"/dev/fd/{opened}/out"
+    for words in ([], ["--force"]):
+        prints("", "public-copy", file, out, *words, pass_fds=[opened])
+        assert (home / "out").read_bytes() == COPY
+    (home / "out").unlink()
+    home.rmdir()
+    # which is how the system tells the folder that was removed
+    other.mkdir()
+    for words in ([], ["--force"]):
+        fails(3, "cannot write", "public-copy", file, out, *words, pass_fds=[opened])
+    assert os.listdir(other) == []
+    os.close(opened)
 
 
 def test_calls_at_once(folder):

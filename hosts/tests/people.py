@@ -47,7 +47,9 @@ def enter_container(person, users, groups):
     # only who is outside may map others than himself
     outside = os.fork()
     if outside == 0:
-        os.read(go_on, 1)
+        os.close(ask)
+        if not os.read(go_on, 1):
+            os._exit(1)  # the other could not enter
         for file, numbers in [("uid_map", users), ("gid_map", groups)]:
             with open(f"/proc/{inside}/{file}", "w") as lines:
                 lines.write("".join(f"{number} {other} 1\n" for number, other in numbers.items()))

@@ -13,7 +13,7 @@ import subprocess
 import tempfile
 import time
 
-from calling import NOBODY, fails, prints, start
+from calling import NOBODY, can_be_others, fails, prints, start
 from cases import SAMPLE
 from moments import act_once, answers, call_of, can_step, has_open, step
 from people import ACL, DEFAULT_ACL, MEMBER, NAMED, OUTSIDER, OWNER, OWNER_IN_TEAM, PEOPLE, ROOT, TEAM, USERS
@@ -27,7 +27,7 @@ RENAMED = payload(names((b"b", 5)), arguments((b"E", b"main")))
 MMAP, BRK, MREMAP, FLOCK, FCHMOD, FSETXATTR, FGETXATTR = 9, 12, 25, 73, 91, 190, 193
 FREMOVEXATTR, RENAMEAT, LINKAT = 199, 264, 265
 # why a test is not run
-NOT_ROOT, NOT_TRACED = "this is not run as root", "processes cannot be traced here"
+NOT_ROOT, NOT_TRACED = "this is not run as root, who can be all users", "processes cannot be traced here"
 
 
 def sample_and_home(folder):
@@ -321,8 +321,8 @@ def rewrite(file, home, caller, owner, group, bits, rights=None):
 
 
 def test_who_can_read_what_replaces_a_file(folder):
-    if os.geteuid() != 0 or not can_step():
-        return NOT_ROOT if os.geteuid() != 0 else NOT_TRACED
+    if not can_be_others() or not can_step():
+        return NOT_ROOT if not can_be_others() else NOT_TRACED
     file, home = sample_and_home(folder)
     # a team's folder, in which a file is replaced by a member whose own group is another
     os.chown(home, 0, TEAM)
@@ -358,8 +358,8 @@ def test_who_can_read_what_replaces_a_file(folder):
 
 
 def test_who_can_read_what_replaces_a_file_with_an_acl(folder):
-    if os.geteuid() != 0 or not can_step():
-        return NOT_ROOT if os.geteuid() != 0 else NOT_TRACED
+    if not can_be_others() or not can_step():
+        return NOT_ROOT if not can_be_others() else NOT_TRACED
     if not has_acls(folder):
         return "this file system has no ACLs"
     file, home = sample_and_home(folder)
@@ -385,8 +385,8 @@ def test_who_can_read_what_replaces_a_file_with_an_acl(folder):
 
 
 def test_who_can_read_what_replaces_a_file_from_a_container(folder):
-    if os.geteuid() != 0 or not has_containers():
-        return NOT_ROOT if os.geteuid() != 0 else "there are no user namespaces here"
+    if not can_be_others() or not has_containers():
+        return NOT_ROOT if not can_be_others() else "there are no user namespaces here"
     file, home = sample_and_home(folder)
     out = home / "out"
     # new files are of a group whose members could not read the old one; in the container both groups are 65534
@@ -406,10 +406,19 @@ def test_who_can_read_what_replaces_a_file_from_a_container(folder):
             prints("", "public-copy", file, out, "--force", **container)
             gained = {person for person in readers(out) - could if person.user != MEMBER.user}
             assert not gained and out.read_bytes() == COPY, f"{bits:o}, {users}: {access(out)}, {gained}"
+        # a stranger's link, in a folder of another stranger's
+        put(out, None)
+        put(folder / "aim", b"old")
+        (folder / "aim").chmod(0o666)
+        folder.chmod(0o777)
+        out.symlink_to("../aim")
+        os.lchown(out, stranger.user, stranger.group)
+        os.chown(home, OWNER.user, stranger.group)
+        fails(3, "link of another user's", "public-copy", file, out, "--force", **container)
 
 
 def test_links_of_others(folder):
-    if os.geteuid() != 0:
+    if not can_be_others():
         return NOT_ROOT
     file, home = sample_and_home(folder)
     aim, link, to_link = folder / "aim", home / "link", folder / "to link"
@@ -481,7 +490,7 @@ def test_links_that_are_planted(folder):
         if out.exists():
             out.rename(aside)
         out.symlink_to(victim.out)
-        if os.geteuid() == 0:
+        if can_be_others():
             os.lchown(out, NOBODY, NOBODY)
 
     def tries(old, counts):
@@ -496,7 +505,7 @@ def test_links_that_are_planted(folder):
 
     assert {*tries(b"old", has_found)} == {0, 3}
     # as in /tmp: a stranger's is not followed either where it is there before OUT is opened, or where OUT is new
-    if os.geteuid() == 0:
+    if can_be_others():
         home.chmod(0o1777)
         for old in (b"old", None):
             assert {*tries(old, lambda process: has_open(process, home))} == {0, 3}

@@ -108,14 +108,14 @@ def _call(entry: Callable[..., int], *slices: _Slice) -> tuple[int, int]:
     words: list[int] = []
     # all before the first is filled, so that whatever interrupts a call gives back each that is
     views = [_Buffer() for _ in slices]
+    give_back = map(_release_buffer, views)  # does nothing to one that was not filled
     try:
         for view, (owner, flags, size) in zip(views, slices):
             _get_buffer(owner, view, flags)
             words += view.buf or ctypes.addressof(_NOTHING), view.len // size
         number = entry(*words, second)
     finally:
-        for view in views:
-            _release_buffer(view)  # does nothing to one that was not filled
+        list(give_back)  # at once: nothing interrupts between two of them
     return number, second.value
 
 

@@ -2,7 +2,7 @@
 use std::fmt::{self, Debug, Formatter};
 
 /// A section of a payload.
-#[derive(Clone, Copy, Debug, PartialEq, Eq)]
+#[derive(Clone, Copy, PartialEq, Eq)]
 pub struct Frame<'a> {
     /// Where in the payload it begins.
     pub start: usize,
@@ -150,7 +150,14 @@ impl<'a> Pairs<'a> {
     }
 }
 
-// Neither shows the bytes that it goes over, which can be millions.
+// None of these shows the bytes that it goes over, which can be millions.
+
+impl Debug for Frame<'_> {
+    fn fmt(&self, f: &mut Formatter) -> fmt::Result {
+        let (start, kind, length) = (self.start, self.kind, self.bytes.len());
+        write!(f, "Frame(kind {kind}, {length} bytes from {start})")
+    }
+}
 
 impl Debug for Names<'_> {
     fn fmt(&self, f: &mut Formatter) -> fmt::Result {
