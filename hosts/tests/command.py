@@ -118,8 +118,8 @@ def test_places_of_refusals(folder):
 
 
 def test_the_place_is_the_first(folder):
-    open_text = arguments((b"E", b"main")).data[:-1] + b"\1"
-    data = struct.pack("<IHH", 8 + 2 * len(open_text) + 40, 0, 3) + names((b"a", 5)).data + 2 * open_text
+    unpadded = arguments((b"E", b"main")).data[:-1] + b"\1"
+    data = struct.pack("<IHH", 8 + 2 * len(unpadded) + 40, 0, 3) + names((b"a", 5)).data + 2 * unpadded
     fails(1, "(section 1, at byte 48)", "check", "-", data=data)
 
 

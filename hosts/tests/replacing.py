@@ -417,6 +417,47 @@ def test_who_can_read_what_replaces_a_file_from_a_container(folder):
         fails(3, "link of another user's", "public-copy", file, out, "--force", **container)
 
 
+def test_a_file_that_is_exchanged_for_a_moment(folder):
+    if not can_step():
+        return NOT_TRACED
+    if not has_acls(folder):
+        return "this file system has no ACLs"
+    file, home = sample_and_home(folder)
+    out, other, aside = home / "out", home / "other", home / "aside"
+    # its permission bits alone would give its group what the ACL denies
+    rights = acl(6, 4, 0, 4, 0)
+
+    def prepare():
+        put(other, b"other")
+        put(out, b"old")
+        os.setxattr(out, ACL, rights)
+
+    def exchange(one, another):
+        one.rename(aside)
+        another.rename(one)
+        aside.rename(another)
+
+    # another file stands there during one system call, each time another
+    for place in range(1, 1000):
+        prepare()
+        seen = 0
+
+        def act(process):
+            nonlocal seen
+            if has_open(process, home):
+                seen += 1
+                if seen in (place, place + 1):
+                    exchange(out, other)
+
+        status = step(act, "public-copy", file, out, "--force")
+        if seen <= place:
+            break
+        new = [path for path in (out, other) if path.read_bytes() == COPY]
+        assert len(new) == (0 if status else 1) and not temporaries(home)
+        assert all(acl_of(path) == rights for path in new), f"{place}: {[access(path) for path in new]}"
+    assert 10 < place < 999
+
+
 def test_links_of_others(folder):
     if not can_be_others():
         return NOT_ROOT
