@@ -82,7 +82,9 @@ enum srci_refusal {
     /* There would be over 65,535 sections, 65,535 bytes of names in one, or 26,214,400 bytes. */
     SRCI_WONT_FIT = 18,
     /* The output is too short. The second number: bytes needed. */
-    SRCI_NO_ROOM = 19
+    SRCI_NO_ROOM = 19,
+    /* A line of a sheet is malformed or misplaced. The second number: line. */
+    SRCI_BAD_LINE = 20
 };
 /* [tables: end] */
 
@@ -109,7 +111,8 @@ SRCI_INLINE const char *srci_refusal_name(uint32_t number)
         "no rows",
         "bad row",
         "won't fit",
-        "no room"
+        "no room",
+        "bad line"
     };
     return number - 1 < sizeof texts / sizeof *texts ? texts[number - 1] : NULL;
 }
@@ -137,7 +140,8 @@ SRCI_INLINE const char *srci_refusal_meaning(uint32_t number)
         "The table of rows is too short.",
         "A row breaks a rule of rows, or the table has a part of a row.",
         "There would be over 65,535 sections, 65,535 bytes of names in one, or 26,214,400 bytes.",
-        "The output is too short."
+        "The output is too short.",
+        "A line of a sheet is malformed or misplaced."
     };
     return number - 1 < sizeof texts / sizeof *texts ? texts[number - 1] : NULL;
 }
@@ -219,6 +223,23 @@ uint32_t srci_public_copy(const uint8_t *payload, size_t payload_length, uint8_t
  * may have 65,535, and so some 4 MB. Refusals: 1 to 15, then 19. */
 uint32_t srci_card(const uint8_t *payload, size_t payload_length, uint8_t *output, size_t output_length,
                    uint32_t *second);
+
+/* Makes the sheet of a payload, for a text editor: lines of UTF-8, with no NUL at the end, that show everything in the
+ * payload, packed and unknown bytes too: secrecy, which covers the public copy and the card, does not cover it. A line
+ * has a word and these fields, parted by tabs:
+ *   contents   header field
+ *   content    text
+ *   packed     header field, count, uncompressed bytes, bytes
+ *   names
+ *   name       content size, text
+ *   arguments
+ *   pair       name, value
+ *   unknown    kind, bytes
+ * Numbers are decimal, bytes are pairs of hexadecimal digits, and in a text a backslash, a tab and a newline are a
+ * backslash followed by a backslash, t or n. A sheet is at most three and a half times as long as the payload; that of
+ * a payload without sections is empty, and accepted with an output of length 0. Refusals: 1 to 15, then 19. */
+uint32_t srci_to_sheet(const uint8_t *payload, size_t payload_length, uint8_t *output, size_t output_length,
+                       uint32_t *second);
 
 #ifdef __cplusplus
 }

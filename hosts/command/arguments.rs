@@ -1,9 +1,10 @@
 //! What the command is asked to do.
-use crate::commands::{Command, COMMANDS, GENERAL, STATUSES};
+use crate::commands::{Command, COMMANDS, GENERAL, STATUSES, STATUSES_IN_SHORT};
 use crate::failure::Failure;
 use crate::manual;
 use std::ffi::{OsStr, OsString};
 use std::fmt::Write;
+use std::ops::RangeInclusive;
 
 /// A command with its operands.
 pub struct Call {
@@ -101,17 +102,14 @@ fn parse_command(command: &'static Command, words: &[OsString]) -> Result<Asked,
             call.operands.push(word.clone());
         }
     }
-    let (given, needed) = (call.operands.len(), command.operands.len());
-    if given < needed || given > needed && !command.takes_several() {
-        let least = if command.takes_several() {
-            "at least "
-        } else {
-            ""
+    let (given, takes) = (call.operands.len(), command.takes());
+    if !takes.contains(&given) {
+        let needed = match takes.into_inner() {
+            (least, usize::MAX) => format!("at least {least}"),
+            (least, most) if least == most => least.to_string(),
+            (least, most) => format!("{least} to {most}"),
         };
-        let what = format!(
-            "{} takes {least}{needed} operand(s), not {given}",
-            command.name
-        );
+        let what = format!("{} takes {needed} operand(s), not {given}", command.name);
         return Err(command.wrong(what));
     }
     Ok(Asked::Command(call))
@@ -124,10 +122,13 @@ impl Call {
 }
 
 impl Command {
-    fn takes_several(&self) -> bool {
-        self.operands
-            .last()
-            .is_some_and(|operand| operand.ends_with(".."))
+    /// How many operands it takes.
+    fn takes(&self) -> RangeInclusive<usize> {
+        let named = self.operands;
+        let left_out = named.iter().filter(|operand| operand.starts_with('['));
+        let are_several = named.last().is_some_and(|operand| operand.ends_with(".."));
+        let most = if are_several { usize::MAX } else { named.len() };
+        named.len() - left_out.count()..=most
     }
 
     fn option(&self, word: &OsStr) -> Result<&'static str, Failure> {
@@ -167,15 +168,16 @@ fn help() -> String {
     });
     format!(
         "\
-SRCI payloads of compiled shaders: cards, listings, rows, public copies
+SRCI payloads of compiled shaders: cards, listings, rows, public copies, sheets
 usage: srci COMMAND ..; 'srci help COMMAND' tells more of each of these
 
 {}
 {}
-{}",
+{GENERAL}
+{STATUSES_IN_SHORT}
+",
         commands.concat(),
         in_columns(&GENERAL_OPTIONS, 26),
-        general()
     )
 }
 

@@ -5,7 +5,7 @@ use crate::jobs;
 
 pub struct Command {
     pub name: &'static str,
-    /// One that ends in `..` may be given several times.
+    /// One that ends in `..` may be given several times, and one in brackets may be left out.
     pub operands: &'static [&'static str],
     /// Each with what it does.
     pub options: &'static [(&'static str, &'static str)],
@@ -22,7 +22,7 @@ pub struct Shared {
     pub text: &'static str,
 }
 
-pub const COMMANDS: [Command; 7] = [
+pub const COMMANDS: [Command; 8] = [
     Command {
         name: "card",
         operands: &["FILE.."],
@@ -78,6 +78,15 @@ pub const COMMANDS: [Command; 7] = [
         shared: &[&OUT],
     },
     Command {
+        name: "sheet",
+        operands: &["FILE", "[OUT]"],
+        options: &[FORCE],
+        run: jobs::sheet,
+        does: "write the sheet: everything that the payload holds, as lines of text",
+        more: SHEET,
+        shared: &[&OUT],
+    },
+    Command {
         name: "check",
         operands: &["FILE.."],
         options: &[NAMED],
@@ -122,6 +131,26 @@ without a text, or without a value, has no such field.
 const RENAME: &str = "\
 It is refused where no file is named OLD, where another file is named NEW already (--merge renames
 all the same), and where NEW is empty (--empty).
+";
+
+const SHEET: &str = "\
+Secrecy, which covers the card and the public copy, does not cover the sheet: it shows everything that
+the payload holds, packed and unknown bytes too. Without OUT it is printed.
+
+A line has a word and fields, parted by tabs, and stands for a section or for an entry of the section
+before it:
+  contents   header field
+  content    text
+  packed     header field, count, uncompressed bytes, bytes
+  names
+  name       content size, text
+  arguments
+  pair       name, value
+  unknown    kind, bytes
+
+Numbers are decimal, and bytes are pairs of hexadecimal digits. In a text a backslash, a tab and a new
+line are \\\\, \\t and \\n; all other characters stand as they are. A sheet with characters that do not
+show, or that change how others show, goes to a terminal only with --force.
 ";
 
 pub const SHARED: [&Shared; 3] = [&SEVERAL, &FIELDS, &OUT];
@@ -173,6 +202,10 @@ pub const STATUSES: [(&str, &str); 4] = [
         "a file cannot be read or written, or memory is lacking",
     ),
 ];
+
+/// The same in a line: the help of the whole fits a screen.
+pub const STATUSES_IN_SHORT: &str =
+    "Exit status: 0 done; 1 refused; 2 wrong usage; 3 a file cannot be read or written, or no memory";
 
 impl Command {
     pub fn usage(&self) -> String {

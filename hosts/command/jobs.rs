@@ -97,6 +97,13 @@ pub fn rename(call: &Call) -> Result<(), Failure> {
     out.write(&renamed)
 }
 
+pub fn sheet(call: &Call) -> Result<(), Failure> {
+    let out = call.operands.get(1).map_or(OsStr::new("-"), |out| out);
+    let (payload, out) = read_and_open(call, &call.operands[0], out)?;
+    let sheet = payload.by(srci::to_sheet)?;
+    out.write(&sheet)
+}
+
 /// Reads FILE and finds OUT. A file is read after OUT is locked, since both can be one. A stream is read before, since
 /// others would wait for the lock as long as nothing comes.
 fn read_and_open<'a>(

@@ -8,7 +8,7 @@ use std::fmt::Write;
 pub fn page() -> String {
     let mut page = format!(
         ".TH SRCI 1 \"\" \"srci {}\" \"\"\n.SH NAME\nsrci \\- SRCI payloads of compiled shaders: cards, \
-         listings, rows, public copies\n.SH SYNOPSIS\n",
+         listings, rows, public copies, sheets\n.SH SYNOPSIS\n",
         srci::VERSION
     );
     for command in &COMMANDS {

@@ -2,17 +2,20 @@
 use crate::failure::Failure;
 use crate::old::Old;
 use crate::place::Place;
-use crate::{files, system};
+use crate::{files, system, text};
 use std::ffi::{CStr, CString, OsStr, OsString};
 use std::fs::File;
-use std::io::{self, IsTerminal, Write};
+use std::io::{self, Write};
 
 /// Where a result goes. A file that is to be replaced is locked until the result is there: of calls at once that rename
 /// in place, each reads what the one before has written.
 pub struct Output(To);
 
 enum To {
-    Standard,
+    Standard {
+        /// Whether it is to be printed whatever it is, at a terminal too.
+        is_forced: bool,
+    },
     File {
         out: OsString,
         place: Place,
@@ -22,24 +25,21 @@ enum To {
 
 impl Output {
     /// Finds where OUT leads. A file that is there is replaced only where that is asked for.
-    pub fn open(out: &OsStr, replace: bool) -> Result<Output, Failure> {
+    pub fn open(out: &OsStr, is_forced: bool) -> Result<Output, Failure> {
         if files::is_stream(out, 1) {
-            let stdout = files::standard_output().map_err(files::not_printed)?;
-            if stdout.is_terminal() && !replace {
-                let why = "it is a terminal, and this is no text; --force writes it all the same";
-                return Err(files::not_printed(io::Error::other(why)));
-            }
-            return Ok(Output(To::Standard));
+            files::standard_output().map_err(files::not_printed)?;
+            return Ok(Output(To::Standard { is_forced }));
         }
         let place = Place::find(out).map_err(not_written(out))?;
-        let old = place.hold(out, replace).map_err(not_written(out))?;
+        let old = place.hold(out, is_forced).map_err(not_written(out))?;
         let out = out.to_os_string();
         Ok(Output(To::File { out, place, old }))
     }
 
     pub fn write(self, bytes: &[u8]) -> Result<(), Failure> {
-        let To::File { out, place, old } = self.0 else {
-            return files::print(|stdout| stdout.write_all(bytes));
+        let (out, place, old) = match self.0 {
+            To::Standard { is_forced } => return print(bytes, is_forced),
+            To::File { out, place, old } => (out, place, old),
         };
         let written = match &old {
             Some(old) => write_over(&place, old, bytes),
@@ -47,6 +47,16 @@ impl Output {
         };
         written.map_err(not_written(&out))
     }
+}
+
+/// Prints bytes. What a stranger has put in them can do things to a terminal that nobody sees.
+fn print(bytes: &[u8], is_forced: bool) -> Result<(), Failure> {
+    if files::is_terminal() && !is_forced && !text::shows(bytes) {
+        let why =
+            "it is a terminal, and not all of this would show; --force writes it all the same";
+        return Err(files::not_printed(io::Error::other(why)));
+    }
+    files::print(|stdout| stdout.write_all(bytes))
 }
 
 fn not_written(out: &OsStr) -> impl Fn(io::Error) -> Failure + '_ {

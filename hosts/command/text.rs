@@ -28,6 +28,12 @@ fn is_unseen(c: char) -> bool {
             | '\u{e0000}'..='\u{e0fff}')
 }
 
+/// Whether bytes are a text whose every character shows, but for what parts lines and fields.
+pub fn shows(bytes: &[u8]) -> bool {
+    let is_shown = |c| matches!(c, '\t' | '\n') || !is_unseen(c);
+    std::str::from_utf8(bytes).is_ok_and(|text| text.chars().all(is_shown))
+}
+
 /// A text as a field of a tab-parted line.
 pub struct Field<'a>(pub &'a str);
 

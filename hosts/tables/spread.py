@@ -114,7 +114,10 @@ def c_numbers():
 def rust_refusals():
     lines = []
     for _, name, meaning, second in REFUSALS:
-        more = f" It tells the {second}; only [`crate::lent`] answers it." if second else ""
+        more = f" It tells the {second}." if second else ""
+        if second.endswith(" needed"):
+            # which the functions that allocate ask for themselves
+            more = f" It tells the {second}; only [`crate::lent`] answers it."
         lines += [f"/// {meaning}{more}", f"{variant(name)}{'(u32)' if second else ''},"]
     return block(lines, "    ")
 

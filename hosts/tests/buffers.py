@@ -12,7 +12,7 @@ import tracemalloc
 from array import array
 
 import srci
-from sections import arguments, card, contents, listing, names, packed, payload, unknown
+from sections import arguments, card, contents, listing, names, packed, payload, sheet, unknown
 from srci import _calls
 from trying import most_pairs, raises, run_tests
 
@@ -36,6 +36,7 @@ def expect_jobs(buffer):
     assert srci.card(buffer) == card(*PARTS)
     copy = payload(packed(b"", 2, 0), names((b"sky.hlsl", 1)), arguments((b"E", b"main")))
     assert srci.public_copy(buffer) == copy
+    assert srci.to_sheet(buffer) == sheet(*PARTS)
     rows = srci.read(buffer)
     assert srci.write(buffer, b"", rows) == PAYLOAD
     assert [row.text(buffer) for row in rows] == [None, None, None, "sky.hlsl", None, "E"]
@@ -44,7 +45,7 @@ def expect_jobs(buffer):
 
 
 def test_not_a_buffer():
-    for job in (srci.read, srci.listing, srci.public_copy, srci.card, srci.facts, srci.names):
+    for job in (srci.read, srci.listing, srci.public_copy, srci.card, srci.facts, srci.names, srci.to_sheet):
         raises(TypeError, job, "a text")
         raises(BufferError, job, memoryview(PAYLOAD)[::2])
 
@@ -127,6 +128,7 @@ def test_a_call_on_bytes_releases_pythons_lock():
         lambda: srci.card(PAIRS),
         lambda: srci.listing(PAIRS),
         lambda: srci.public_copy(PAIRS),
+        lambda: srci.to_sheet(PAIRS),
         lambda: srci.facts(PAIRS),
         lambda: srci.read(PAIRS),
         lambda: srci.write(PAIRS, b"", rows),
@@ -142,6 +144,7 @@ def test_a_call_on_what_may_change_keeps_pythons_lock():
         lambda: srci.card(lent),
         lambda: srci.listing(memoryview(lent)),
         lambda: srci.public_copy(memoryview(PAIRS)),
+        lambda: srci.to_sheet(lent),
         lambda: srci.facts(lent),
         lambda: srci.read(Changing(PAIRS)),
         lambda: srci.write(lent, b"", rows),
@@ -175,12 +178,54 @@ def test_refused():
         assert (one.number, one.name, one.meaning, one.second) == (2, "ragged", meaning, 0)
         assert str(one) == f"refused 2, ragged: {meaning}"
     assert (srci.Refused(16, 5).second, srci.Refused(number=19).name) == (5, "no room")
-    for number in (0, 20, -1, 2**32):
+    for number in (0, 21, -1, 2**32):
         raises(ValueError, srci.Refused, number)
-    assert len(srci.REFUSALS) == 19
+    assert len(srci.REFUSALS) == 20
     for number, name in enumerate(srci.REFUSALS, 1):
         assert str(srci.Refused(number)).startswith(f"refused {number}, {name}: ")
     assert str(srci.Refused(19, 5)) == "refused 19, no room: The output is too short. (bytes needed: 5)"
+    assert str(srci.Refused(20, 5)) == "refused 20, bad line: A line of a sheet is malformed or misplaced. (line: 5)"
+
+
+# What a sheet escapes, at the ends of texts and alone, and what it leaves as it is.
+ODD = [b"", b"\\", b"\t", b"\n", b"\\t\\n", b"\n\t\\a b\\\t\n", b"a\r\nb\r"]
+ODD += ["\x01\x7f\x85\u202e\u2028é\U0001f600".encode()]
+
+
+def test_sheets():
+    parts = [
+        contents(*ODD, field=2**32 - 1),
+        packed(bytes(range(256)), 2**32 - 1, 2**32 - 1, field=7),
+        names(*[(text, 10**place) for place, text in enumerate(ODD)]),
+        arguments(*zip(ODD, reversed(ODD))),
+        unknown(3),
+        unknown(0xFFFF, bytes(range(255, -1, -1))),
+        packed(b"", 0, 0),
+        contents(),
+        names(),
+        arguments(),
+    ]
+    assert srci.to_sheet(payload(*parts)) == sheet(*parts)
+    for part in parts:
+        assert srci.to_sheet(payload(part)) == sheet(part)
+    assert srci.to_sheet(payload()) == b""
+
+
+def test_an_output_for_a_sheet():
+    whole = sheet(*PARTS)
+    for lent in range(len(whole) + 3):
+        output = bytearray(b"\xa5" * (len(whole) + 8))
+        number, second = _calls.to_sheet(PAYLOAD, memoryview(output)[:lent])
+        assert (number, second) == (0 if lent >= len(whole) else 19, len(whole))
+        stored = whole if number == 0 else b""
+        assert output == stored + b"\xa5" * (len(output) - len(stored))
+    assert _calls.to_sheet(payload(), bytearray()) == (0, 0)
+
+
+def test_refused_sheets():
+    for number, given in [(2, b""), (3, bytes(8)), (2, PAYLOAD[:-1]), (11, payload(names((b"\xff", 1))))]:
+        refused = raises(srci.Refused, srci.to_sheet, given)
+        assert (refused.number, refused.second) == (number, 0)
 
 
 def test_equal_rows():
@@ -240,6 +285,7 @@ def test_the_limit():
     tracemalloc.stop()
     assert peak < 100_000, f"{peak} bytes: a payload was copied"
     assert len(srci.public_copy(whole)) == 52
+    assert srci.to_sheet(whole) == sheet(contents(b"a" * 26_214_351))
     assert srci.write(whole, b"", srci.read(whole)) == whole
     assert raises(srci.Refused, srci.card, whole + b"a").number == 1
 
@@ -248,6 +294,12 @@ def test_the_most_rows():
     whole, pairs = most_pairs()
     rows = srci.read(whole)
     assert len(rows) == 1 + pairs and rows[-1] == (7, 0, srci.LIMIT - 2, 0, srci.LIMIT - 1, 0, 0)
+
+
+def test_the_longest_sheet():
+    whole, pairs = most_pairs()
+    assert srci.to_sheet(whole) == b"arguments\n" + b"pair\t\t\n" * pairs
+    raises(srci.Refused, srci.to_sheet, whole + b"a")
 
 
 run_tests(globals())

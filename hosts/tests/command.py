@@ -15,7 +15,7 @@ import struct
 
 from calling import fails, prints, run, run_tests
 from cases import SAMPLE, line_cases, refusal_cases
-from sections import arguments, card, contents, listing, names, packed, payload, unknown
+from sections import arguments, card, contents, listing, names, packed, payload, sheet, unknown
 from srci import LIMIT, REFUSALS, Refused
 
 ROOT = pathlib.Path(__file__).resolve().parents[2]
@@ -41,6 +41,7 @@ MEANINGS = {
     17: "row breaks a rule of rows, or the table has a part of a row",
     18: "over 65,535 sections, 65,535 bytes of names in one, or 26,214,400 bytes",
     19: "output is too short",
+    20: "line of a sheet is malformed or misplaced",
 }
 
 
@@ -81,6 +82,8 @@ def test_refused_payloads(folder):
             is_refused(number, *command, file)
         is_refused(number, "public-copy", file, out)
         is_refused(number, "rename", file, "a", "b", out)
+        is_refused(number, "sheet", file)
+        is_refused(number, "sheet", file, out)
     is_refused(2, "check", "-")
     assert os.listdir(folder) == ["payload"]
 
@@ -110,6 +113,7 @@ def test_places_of_refusals(folder):
         name = case.name.split(": ", 1)[-1]
         place = AFTER.get(name, "section 0, at byte 8")
         assert said.endswith(f" ({place})\n".encode()), f"{case.name}: {said}, not {place}"
+        assert run("sheet", "-", data=case.data)[1] == said
         length, flags, count = struct.unpack_from("<IHH", case.data)
         data = struct.pack("<IHH", length + len(before), flags, count + 2) + before + case.data[8:]
         place = moved(place, 2, len(before))
@@ -128,12 +132,13 @@ def test_meanings(folder):
     for number, words in MEANINGS.items():
         assert words in Refused(number).meaning
     assert str(Refused(16, 5)).endswith("(rows needed: 5)") and str(Refused(19, 5)).endswith("(bytes needed: 5)")
+    assert str(Refused(20, 5)).endswith("(line: 5)")
 
 
 def test_containers(folder):
     # the least container: a digest, versions 1 and 0, its size, and no parts
     for number, data in [(3, b"DXBC" + bytes(16) + struct.pack("<HHII", 1, 0, 32, 0)), (2, b"DXBC" + bytes(27))]:
-        for words in (["card", "-"], ["public-copy", "-", "-"], ["rename", "-", "a", "b", "-"]):
+        for words in (["card", "-"], ["public-copy", "-", "-"], ["rename", "-", "a", "b", "-"], ["sheet", "-"]):
             is_refused(number, *words, data=data)
             fails(1, "is a shader container; the payload is its part SRCI", *words, data=data)
     _, said, _ = run("card", "-", data=b"DXBD" + bytes(28))
@@ -237,6 +242,51 @@ def test_public_copies(folder):
     assert tried > 50
 
 
+def test_stored_sheets(folder):
+    file, out = folder / "payload", folder / "out"
+    accepted = refused = 0
+    for data, number, lines in stored_calls("to_sheet"):
+        file.write_bytes(data)
+        if number == 0:
+            prints(lines, "sheet", file)
+            prints("", "sheet", file, out, "--force")
+            assert out.read_bytes() == lines
+            accepted += 1
+        elif number != 19:  # which the command answers itself
+            is_refused(number, "sheet", file)
+            refused += 1
+    assert accepted > 10 and refused > 50
+
+
+def test_sheets(folder):
+    parts = [
+        contents(UNSEEN.encode(), b"", b"\\n\n\\\\", field=2**32 - 1),
+        packed(b"\xff\x00closed", 2**32 - 1, 0, field=1),
+        unknown(0xFFFF, bytes(range(256))),
+        names((UNSEEN.encode(), 0), (b"sky.hlsl", 2**32 - 1)),
+        arguments((b"E", b"main"), (b"\t", b"\n"), (b"", b"")),
+        unknown(3),
+        names(),
+    ]
+    file, out = folder / "payload", folder / "out"
+    file.write_bytes(payload(*parts))
+    prints(sheet(*parts), "sheet", file)
+    prints(sheet(*parts), "sheet", "-", data=payload(*parts))
+    for words in ([file, "-"], [file, "/dev/stdout"], ["-", "-", "--force"]):
+        prints(sheet(*parts), "sheet", *words, data=payload(*parts))
+    prints("", "sheet", file, out)
+    assert out.read_bytes() == sheet(*parts)
+    prints("names\nname\t5\ta\narguments\npair\tE\tmain\n", "sheet", "-", data=SAMPLE)
+    # no sections, no lines: the file is there all the same
+    prints("", "sheet", "-", data=payload())
+    prints("", "sheet", "-", out, "--force", data=payload())
+    assert out.read_bytes() == b""
+    for case in line_cases():
+        # a line for each row, which have a header line
+        lines, rows = (run(command, "-", data=case.data)[0].count(b"\n") for command in ("sheet", "rows"))
+        assert lines == rows - 1
+
+
 def test_rename(folder):
     def made(name):
         first = names((name, 5), (b"other.hlsl", 7), (name, 9))
@@ -312,6 +362,9 @@ def test_memory(folder):
             assert run(*words, stdout=null, preexec_fn=limit_memory)[1:] == (b"", 0)
         for command in ("card", "list", "check"):
             assert run(command, file, stdout=null, preexec_fn=limit_memory)[1:] == (b"", 0)
+    # 92 MB beside the payload's 25
+    prints("", "sheet", file, folder / "sheet", preexec_fn=limit_memory)
+    assert (folder / "sheet").read_bytes() == b"arguments\n" + b"pair\t\t\n" * pairs + sheet(old)
     new = payload(arguments(*[(b"", b"")] * pairs), names((b"new", 1)))
     prints("", "rename", file, "old", "new", folder / "out", preexec_fn=limit_memory)
     assert (folder / "out").read_bytes() == new
@@ -322,7 +375,7 @@ def test_memory(folder):
         data.seek(-1, os.SEEK_END)
         data.write(b"\1")
     place = f"(section 1, at byte {LIMIT - 40})"
-    for command in ("check", "facts", "rows"):
+    for command in ("check", "facts", "rows", "sheet"):
         fails(1, place, command, file, preexec_fn=limit_memory)
 
 
@@ -336,10 +389,13 @@ def test_the_limit(folder):
     prints(listing(part), "list", "-", data=file.read_bytes())
     prints("", "public-copy", file, out)
     assert out.read_bytes() == payload(contents(b""))
+    prints("", "sheet", file, folder / "sheet")
+    assert (folder / "sheet").read_bytes() == sheet(part)
     assert len(run("rows", file)[0]) > 26_214_351
     with file.open("ab") as more:
         more.write(b"\0")
     is_refused(1, "card", file)
+    is_refused(1, "sheet", file)
     is_refused(1, "check", "-", data=file.read_bytes())
     with open("/dev/zero", "rb") as endless:
         is_refused(1, "check", "-", stdin=endless)

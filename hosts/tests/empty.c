@@ -49,6 +49,20 @@ static void expect_inside(uint32_t *number)
     *number = 0;
 }
 
+/* The lines of the payload, whose texts and bytes have nothing in them. */
+static void expect_sheet(size_t length)
+{
+    static const char sheet[] = "contents\t0\ncontent\t\npacked\t0\t2\t900\t\nnames\nname\t5\t\narguments\npair\t\t\n"
+                                "unknown\t7\t\n";
+    size_t needed = sizeof sheet - 1;
+    assert(srci_to_sheet(payload, length, NULL, 0, &second) == SRCI_NO_ROOM && second == needed);
+    memset(output, 0xA5, sizeof output);
+    assert(srci_to_sheet(payload, length, output, needed - 1, &second) == SRCI_NO_ROOM && second == needed);
+    assert(output[0] == 0xA5);
+    assert(srci_to_sheet(payload, length, output, needed, &second) == 0 && second == needed);
+    assert(memcmp(output, sheet, needed) == 0 && output[needed] == 0xA5);
+}
+
 static void write_from(uint32_t side, size_t length)
 {
     for (size_t i = 0; i < SPANS; i++) {
@@ -76,13 +90,19 @@ int main(void)
     assert(srci_public_copy(NULL, 0, output, sizeof output, &second) == SRCI_RAGGED && second == 0);
     assert(srci_card(NULL, 0, NULL, 0, &second) == SRCI_RAGGED && second == 0);
     assert(srci_card(NULL, 0, output, sizeof output, &second) == SRCI_RAGGED && second == 0);
+    assert(srci_to_sheet(NULL, 0, NULL, 0, &second) == SRCI_RAGGED && second == 0);
+    assert(srci_to_sheet(NULL, 0, output, sizeof output, &second) == SRCI_RAGGED && second == 0);
     assert(write_rows(0, 0) == SRCI_NO_ROOM && second == 8);
     assert(write_rows(0, 8) == 0 && second == 8 && memcmp(output, "\10\0\0\0\0\0\0\0", 8) == 0);
+    /* without sections there are no lines */
+    second = 1;
+    assert(srci_to_sheet(output, 8, NULL, 0, &second) == 0 && second == 0);
 
     size_t length = fread(payload, 1, sizeof payload, stdin);
     assert(srci_read(payload, length, NULL, 0, &second) == SRCI_NO_ROWS && second == ROWS);
     assert(srci_read(payload, length, rows, NUMBERS, &second) == 0 && second == ROWS);
     write_from(SRCI_SIDE_PAYLOAD, length);
     write_from(SRCI_SIDE_EDIT, length);
+    expect_sheet(length);
     return 0;
 }

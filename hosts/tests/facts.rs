@@ -249,6 +249,12 @@ fn main() {
         lacking.to_string(),
         "19, no room: The output is too short. (bytes needed: 5)"
     );
+    let faulty = srci::Refusal::BadLine(12);
+    assert_eq!((faulty.number(), faulty.second()), (20, 12));
+    assert_eq!(
+        faulty.to_string(),
+        "20, bad line: A line of a sheet is malformed or misplaced. (line: 12)"
+    );
     // what is left out is not shown either
     let mut pairs = vec![
         Row {

@@ -20,7 +20,10 @@ from calling import as_nobody, can_be_others, fails, prints, run, run_tests, sta
 from cases import SAMPLE
 from people import OWNER
 from replacing import COPY, RENAMED, put
-from sections import arguments, payload, unknown
+from sections import arguments, names, payload, sheet, unknown
+
+# of the sample
+SHEET = sheet(names((b"a", 5)), arguments((b"E", b"main")))
 
 
 def test_files_that_cannot_be_read(folder):
@@ -38,7 +41,7 @@ def test_an_output_that_exists(folder):
     file.write_bytes(SAMPLE)
     out.write_bytes(b"old")
     out.chmod(0o640)
-    for words in (["public-copy", file], ["rename", file, "a", "b"]):
+    for words in (["public-copy", file], ["rename", file, "a", "b"], ["sheet", file]):
         fails(3, "--force", *words, out)
         assert out.read_bytes() == b"old"
     if can_be_others():
@@ -46,6 +49,8 @@ def test_an_output_that_exists(folder):
     owner = out.stat().st_uid
     prints("", "public-copy", file, out, "--force")
     assert out.read_bytes() == COPY and stat.S_IMODE(out.stat().st_mode) == 0o640 and out.stat().st_uid == owner
+    prints("", "sheet", file, out, "--force")
+    assert out.read_bytes() == SHEET and stat.S_IMODE(out.stat().st_mode) == 0o640 and out.stat().st_uid == owner
     link = folder / "link"
     link.symlink_to("out")
     out.write_bytes(b"old")
@@ -61,6 +66,7 @@ def test_an_output_that_exists(folder):
     os.mkfifo(pipe)
     for special in (pipe, folder, f"{folder}/", f"{folder}/.", f"{folder}/..", "/", "/dev/null"):
         fails(3, "no regular file", "public-copy", file, special, "--force")
+        fails(3, "no regular file", "sheet", file, special, "--force")
     assert stat.S_ISFIFO(pipe.stat().st_mode) and stat.S_ISCHR(os.stat("/dev/null").st_mode)
     for none in ("none/out", "none/", "none/..", "out/", "out/none", "nowhere/", "nowhere/out", "n" * 256):
         fails(3, "cannot write", "public-copy", file, none, "--force", cwd=folder)
@@ -169,7 +175,7 @@ def test_streams_that_are_closed(folder):
     file.write_bytes(SAMPLE)
     for name in ("-", "/dev/stdin", "/dev/fd/0", "/proc/self/fd/0"):
         fails(3, "cannot read standard input: it is closed", "card", name, **closed(0))
-    calls = [["--help"], ["rename", file, "a", "b", "-"]]
+    calls = [["--help"], ["rename", file, "a", "b", "-"], ["sheet", file], ["sheet", file, "-"]]
     calls += [[command, file] for command in ("card", "facts", "list", "rows", "check")]
     calls += [["public-copy", file, name, "--force"] for name in ("-", "/dev/stdout", "/dev/fd/1", "/proc/self/fd/1")]
     for call in calls:
@@ -186,6 +192,7 @@ def test_streams_by_their_names(folder):
     for name in ("/dev/stdout", "/dev/fd/1", "/proc/self/fd/1"):
         prints(COPY, "public-copy", file, name)
         prints(RENAMED, "rename", file, "a", "b", name)
+        prints(SHEET, "sheet", file, name)
         with open(out, "wb") as stdout:
             stdout.write(b"before ")
             stdout.flush()
@@ -213,6 +220,7 @@ def test_a_terminal(folder):
     for shown, words in [(COPY, ["public-copy", file, "-"]), (RENAMED, ["rename", file, "a", "b", "/dev/stdout"])]:
         assert run(*words, "--force", stdout=end)[2] == 0 and os.read(terminal, 4096) == shown
     assert run("card", file, stdout=end)[2] == 0 and os.read(terminal, 4096).startswith(b"// Shader")
+    assert run("sheet", file, stdout=end)[2] == 0 and os.read(terminal, 4096) == SHEET
     os.close(terminal)
     os.close(end)
 
@@ -225,6 +233,7 @@ def test_a_read_only_folder(folder):
     closed.chmod(0o555)
     for out in ("out", "new"):
         fails(3, "cannot write", "public-copy", folder / "payload", closed / out, "--force", **as_nobody())
+        fails(3, "cannot write", "sheet", folder / "payload", closed / out, "--force", **as_nobody())
     assert os.listdir(closed) == ["out"] and (closed / "out").read_bytes() == b"old"
 
 
@@ -247,14 +256,17 @@ def test_a_full_disk(folder):
         fails(3, "cannot write standard output: No space left", "card", file, stdout=full)
         fails(3, "cannot write standard output: No space left", "rows", file, stdout=full)
         fails(3, "cannot write standard output: No space left", "public-copy", file, "-", stdout=full)
+        fails(3, "cannot write standard output: No space left", "sheet", file, stdout=full)
         fails(3, "cannot write standard output: No space left", "--help", stdout=full)
     # Python has the signal ignored: so the write fails in the middle, as on a disk that fills up
     for old in (None, b"old"):
         out = folder / "out"
         if old:
             out.write_bytes(old)
-        fails(3, "cannot write", "public-copy", file, out, "--force", restore_signals=False, preexec_fn=limit_files)
-        assert sorted(os.listdir(folder)) == (["out", "payload"] if old else ["payload"])
+        for command in ("public-copy", "sheet"):
+            words = [command, file, out, "--force"]
+            fails(3, "cannot write", *words, restore_signals=False, preexec_fn=limit_files)
+            assert sorted(os.listdir(folder)) == (["out", "payload"] if old else ["payload"])
     assert out.read_bytes() == b"old"
 
 
@@ -284,10 +296,33 @@ def test_an_interrupted_write(folder):
     assert out.read_bytes() == copy
 
 
+def test_a_sheet_is_written_whole_or_not_at_all(folder):
+    file, out = folder / "payload", folder / "out"
+    large(folder)
+    for old in (None, b"old"):
+        put(out, old)
+        _, _, status = run("sheet", file, out, "--force", preexec_fn=limit_files)
+        assert status == -signal.SIGXFSZ and sorted(os.listdir(folder)) == (["out", "payload"] if old else ["payload"])
+    assert out.read_bytes() == b"old"
+    # a refused payload leaves what is there
+    file.write_bytes(SAMPLE[:-1])
+    fails(1, "refused 2", "sheet", file, out, "--force")
+    assert out.read_bytes() == b"old" and sorted(os.listdir(folder)) == ["out", "payload"]
+    # in place of the payload itself, which is read before
+    file.write_bytes(SAMPLE)
+    fails(3, "--force", "sheet", file, file)
+    prints("", "sheet", file, file, "--force")
+    assert file.read_bytes() == SHEET
+
+
 def test_a_reader_that_has_seen_enough(folder):
     file, _ = large(folder)
     call = start("rows", file, stdout=subprocess.PIPE, stderr=subprocess.PIPE)
     assert call.stdout.readline().startswith(b"tag\trow\t")
+    call.stdout.close()
+    assert call.stderr.read() == b"" and call.wait() == 3
+    call = start("sheet", file, stdout=subprocess.PIPE, stderr=subprocess.PIPE)
+    assert call.stdout.readline() == b"arguments\n"
     call.stdout.close()
     assert call.stderr.read() == b"" and call.wait() == 3
 

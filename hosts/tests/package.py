@@ -142,7 +142,8 @@ def check_soname(root):
     assert re.findall(r"\(SONAME\).*\[(.*)\]", told) == [SONAME], told
     assert re.findall(r"\(NEEDED\).*\[(.*)\]", told) == ["libc.so.6"], told
     symbols = re.findall(r" [A-Z] ([a-z]\w+)", run("nm", "-D", "--defined-only", library).decode())
-    assert sorted(symbols) == ["srci_card", "srci_list", "srci_public_copy", "srci_read", "srci_write"], symbols
+    jobs = ["card", "list", "public_copy", "read", "to_sheet", "write"]
+    assert sorted(symbols) == [f"srci_{job}" for job in jobs], symbols
 
 
 def check_page(page):

@@ -102,6 +102,12 @@ facts = [" ".join(line.split()) for line in facts.splitlines()]
 assert shown[first : first + len(facts)] == facts, f"{facts}, not {shown[first:]}"
 print("ok: the facts in hosts/README.md")
 
+sheet = subprocess.run(
+    [BUILT / "bin/srci", "sheet", ROOT / "crates/list_payload/stdin"], capture_output=True, text=True, check=True
+).stdout
+assert f"\n\n{indented(sheet)}\n" in (ROOT / "hosts/README.md").read_text()
+print("ok: the sheet in hosts/README.md")
+
 told, shown = examples("hosts/README.md", "python")
 said = {"srci": srci, "payload": PAYLOAD.read_bytes()}
 exec(told, said)

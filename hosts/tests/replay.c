@@ -111,6 +111,9 @@ static void replay(char *line)
     } else if (strcmp(job, "card") == 0) {
         uint32_t number = srci_card(from, length, to, lent, &second);
         print_output(number, second, output);
+    } else if (strcmp(job, "to_sheet") == 0) {
+        uint32_t number = srci_to_sheet(from, length, to, lent, &second);
+        print_output(number, second, output);
     }
 }
 

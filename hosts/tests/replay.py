@@ -14,7 +14,12 @@ from srci import _calls
 NUMBERS, BYTES = 128, 512
 UNTOUCHED, UNTOUCHED_BYTE = 0xA5A5A5A5, 0xA5
 WIDTH = 7
-JOBS = {"list": _calls.listing, "public_copy": _calls.public_copy, "card": _calls.card}
+JOBS = {
+    "list": _calls.listing,
+    "public_copy": _calls.public_copy,
+    "card": _calls.card,
+    "to_sheet": _calls.to_sheet,
+}
 
 
 def print_table(number, second, table):

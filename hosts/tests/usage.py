@@ -14,7 +14,7 @@ import subprocess
 
 from calling import fails, prints, run, run_tests, start
 from cases import SAMPLE, SAMPLE_PRINTED
-from sections import arguments, names, payload
+from sections import arguments, names, payload, sheet
 from srci import REFUSALS, Refused, __version__
 
 COMMANDS = {
@@ -24,6 +24,7 @@ COMMANDS = {
     "rows": "FILE.. [--json] [--named]",
     "public-copy": "FILE OUT [--force]",
     "rename": "FILE OLD NEW OUT [--force] [--merge] [--empty]",
+    "sheet": "FILE [OUT] [--force]",
     "check": "FILE.. [--named]",
 }
 GENERAL = ["--help", "--version", "--sample", "--man-page", "--bash-completion"]
@@ -43,7 +44,7 @@ def test_help(folder):
     for option in GENERAL:
         assert f"  {option} " in whole
     for command, operands in COMMANDS.items():
-        assert f"  {command} {operands.split(' [')[0]} " in whole
+        assert f"  {command} {operands.split(' [--')[0]} " in whole
         own = printed(command, "--help")
         assert own.startswith(f"usage: srci {command} {operands}\n")
         assert own == printed("help", command) == printed(command, "-h") == printed(command, "-", "--help")
@@ -61,24 +62,29 @@ def test_wrong_words(folder):
     for command, operands in COMMANDS.items():
         usage = f"usage: srci {command} {operands}"
         count = len(operands.split(" [")[0].split())
+        most = len(operands.split(" [--")[0].split())
         fails(2, usage, command)
         fails(2, usage, command, *["-"] * (count - 1))
         if not operands.startswith("FILE.."):
-            fails(2, usage, command, *["-"] * (count + 1))
+            fails(2, usage, command, *["-"] * (most + 1))
         fails(2, usage, command, "--no-such-option", *["-"] * count)
+    for said, words in [("card takes at least 1 operand(s), not 0", ["card"]), ("rename takes 4", ["rename"]),
+                        ("sheet takes 1 to 2 operand(s), not 3", ["sheet", "a", "b", "c"])]:
+        fails(2, said, *words)
     for words in ([""], ["-"], ["--json"], ["-x"], ["help", "x"], ["help", "card", "x"]):
         fails(2, "usage: ", *words)
     for option in GENERAL[1:]:
         fails(2, "usage: ", option, "x")
     fails(2, "usage: ", "card", "--json", "-")
     fails(2, "usage: ", "public-copy", "-", "-", "--json")
+    fails(2, "usage: ", "sheet", "-", "--named")
     # an empty variable in a script is no card
     fails(2, "\nusage: srci COMMAND ..", cwd=folder)
 
 
 def test_words_that_are_mistyped(folder):
     for word, meant in [("crad", "card"), ("lst", "list"), ("public_copy", "public-copy"), ("Check", "check"),
-                        ("--verison", "--version"), ("hepl", "help")]:
+                        ("--verison", "--version"), ("hepl", "help"), ("shet", "sheet")]:
         fails(2, f"did you mean '{meant}'?", word, "-")
     fails(2, "did you mean '--force'?", "rename", "--froce", "-", "a", "b", "-")
     fails(2, "a word after -- is no option", "rename", "-", "a", "-name.hlsl", "-")
@@ -148,8 +154,8 @@ def test_several_files_into_a_full_disk(folder):
     assert status == 3 and err.count(b"cannot write") == 1
 
 
-def at_a_terminal(*words, **options):
-    """What the command prints to a terminal, whose line ends are two characters."""
+def at_a_terminal(*words, expected=0, **options):
+    """What the command prints to a terminal, whose line ends are two characters, before it ends with a status."""
     terminal, end = pty.openpty()
     call = start(*words, stdin=subprocess.DEVNULL, stdout=end, stderr=subprocess.DEVNULL, **options)
     os.close(end)
@@ -160,7 +166,7 @@ def at_a_terminal(*words, **options):
     except OSError:
         pass  # the terminal is closed
     os.close(terminal)
-    assert call.wait(60) == 0
+    assert call.wait(60) == expected
     return out.decode().replace("\r\n", "\n")
 
 
@@ -189,6 +195,20 @@ section  fact       count  name      value
     file.write_bytes(payload(arguments(*[(b"E", b"main")] * 2000)))
     lines = at_a_terminal("facts", file).splitlines()
     assert lines[2:] == [lines[2]] * 2000 and lines[2].split() == ["0", "pair", "E", "main"]
+
+
+def test_a_sheet_at_a_terminal(folder):
+    file = folder / "payload"
+    shown = names((b"sky.hlsl", 1), ("имя \\ \t\n".encode(), 1)), arguments((b"E", b"main"))
+    file.write_bytes(payload(*shown))
+    assert at_a_terminal("sheet", file) == at_a_terminal("sheet", file, "-") == sheet(*shown).decode()
+    assert at_a_terminal("sheet", "/dev/null", expected=1) == ""
+    # what would move the cursor, hide or turn a line is for who asks for it
+    for text in ("a\rb", "\x1b[2J", "\x7f", "\u202e", "\u200b"):
+        file.write_bytes(payload(names((text.encode(), 1))))
+        assert at_a_terminal("sheet", file, expected=3) == ""
+        assert text in at_a_terminal("sheet", file, "--force")
+        prints(sheet(names((text.encode(), 1))), "sheet", file)
 
 
 def test_columns_of_several_files(folder):
@@ -233,6 +253,11 @@ def test_memory_at_a_terminal(folder):
     for pairs, least in [([(b"", b"\x01" * 4_000_000)], 20_000_000), ([(b"n" * 20, b"v" * 20)] * 100_000, 5_000_000)]:
         file.write_bytes(payload(arguments(*pairs)))
         assert len(at_a_terminal("facts", file, preexec_fn=limit_memory)) > least
+
+
+def test_what_is_said_of_secrecy(folder):
+    words = " ".join(printed("help", "sheet").split())
+    assert "does not cover the sheet: it shows everything that the payload holds, packed and unknown bytes too" in words
 
 
 def completed(script, *words):

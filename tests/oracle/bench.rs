@@ -1,7 +1,7 @@
 //! Times the C entry points against the Rust, and how the times of all but `srci_read` grow, and prints tables in
 //! Markdown.
 //!
-//! Both get the same payload, which is in memory. Here the table or the output is just long enough and was written
+//! Both get the same payload or sheet, which is in memory. Here the table or the output is just long enough and was written
 //! before. The Rust allocates what it makes; freeing it is not counted.
 //!
 //! - reading: the Rust's time is that of `parse_srci`. It also writes the payload anew, since its result holds that too.
@@ -9,12 +9,18 @@
 //! - listing: that of `parse_srci`, and of `to_string` on what it gives.
 //! - public copies: that of `parse_srci`, of the edit of the sections, and of `write_payload`.
 //! - cards: that of the public copy, and of its listing.
+//! - making sheets: that of `parse_srci`, and of the lines as `String`s.
+//! - reading sheets: that of lines and fields by `split`, and of `write_payload`.
 use crate::boundaries::LIMIT;
-use crate::call::{card, list, make, public_copy, read, write, Job, UNTOUCHED, UNTOUCHED_BYTE};
+use crate::call::{
+    card, from_sheet, list, make, public_copy, read, to_sheet, write, Job, UNTOUCHED,
+    UNTOUCHED_BYTE,
+};
 use crate::compare::WIDTH;
-use crate::payloads::{arguments, contents, names, payload};
+use crate::payloads::{arguments, contents, names, packed, payload, Random};
 use crate::rust_made::{document, make_public};
 use crate::rust_rows::rows_of;
+use crate::rust_sheet::{read_sheet, sheet_of};
 use chunks::srci::parse_srci;
 use chunks::ChunkWriter;
 use std::hint::black_box;
@@ -63,29 +69,68 @@ const INPUTS: [Input; 8] = [
     }),
 ];
 
+/// What a sheet makes twice as long.
+const SHEET_INPUTS: [Input; 2] = [
+    ("packed bytes", |part| {
+        let stored = Random::new(1).bytes(LIMIT / part - 36);
+        payload(&[packed(0, &stored, 0, 0)])
+    }),
+    ("one content, backslashes", |part| {
+        payload(&[contents(0, &[vec![b'\\'; LIMIT / part - 49]])])
+    }),
+];
+
 pub fn run() {
-    table("reading", "rows", read_row);
-    table("writing", "rows", write_row);
-    growth("writing", write_time);
-    table("listing", "bytes listed", |input, payload| {
+    table("reading", "rows", &INPUTS, read_row);
+    table("writing", "rows", &INPUTS, write_row);
+    growth("writing", &INPUTS, write_time);
+    table("listing", "bytes listed", &INPUTS, |input, payload| {
         made_row(input, payload, list, rust_list)
     });
-    growth("listing", |payload| output_time(list, payload));
-    table("public copies", "bytes of the copy", |input, payload| {
-        made_row(input, payload, public_copy, rust_copy)
+    growth("listing", &INPUTS, |payload| output_time(list, payload));
+    table(
+        "public copies",
+        "bytes of the copy",
+        &INPUTS,
+        |input, payload| made_row(input, payload, public_copy, rust_copy),
+    );
+    growth("public copies", &INPUTS, |payload| {
+        output_time(public_copy, payload)
     });
-    growth("public copies", |payload| output_time(public_copy, payload));
-    table("cards", "bytes of the card", |input, payload| {
+    table("cards", "bytes of the card", &INPUTS, |input, payload| {
         made_row(input, payload, card, rust_card)
     });
-    growth("cards", |payload| output_time(card, payload));
+    growth("cards", &INPUTS, |payload| output_time(card, payload));
+    let inputs = [&INPUTS[..], &SHEET_INPUTS].concat();
+    table(
+        "making sheets",
+        "bytes of the sheet",
+        &inputs,
+        |input, payload| made_row(input, payload, to_sheet, rust_to_sheet),
+    );
+    growth("making sheets", &inputs, |payload| {
+        output_time(to_sheet, payload)
+    });
+    table(
+        "reading sheets",
+        "bytes of the payload",
+        &inputs,
+        |input, payload| made_row(input, &sheet(payload), from_sheet, rust_from_sheet),
+    );
+    growth("reading sheets", &inputs, |payload| {
+        output_time(from_sheet, &sheet(payload))
+    });
+}
+
+fn sheet(payload: &[u8]) -> Vec<u8> {
+    make(to_sheet, payload).unwrap()
 }
 
 /// Nanoseconds for each byte of the payload, at each part of the limit.
-fn growth(job: &str, time: fn(&[u8]) -> Duration) {
+fn growth(job: &str, inputs: &[Input], time: fn(&[u8]) -> Duration) {
     println!("| {job}, ns a byte | a sixteenth | a quarter | all |");
     println!("|---|--:|--:|--:|");
-    for (input, make) in INPUTS {
+    for (input, make) in inputs {
         let times = PARTS.map(|part| {
             let payload = make(part);
             let here = time(&payload);
@@ -107,19 +152,19 @@ fn write_time(payload: &[u8]) -> Duration {
     })
 }
 
-fn output_time(job: Job, payload: &[u8]) -> Duration {
-    let mut output = vec![UNTOUCHED_BYTE; job(payload, &mut []).second as usize];
+fn output_time(job: Job, input: &[u8]) -> Duration {
+    let mut output = vec![UNTOUCHED_BYTE; job(input, &mut []).second as usize];
     best(|| {
         let start = Instant::now();
-        black_box(job(black_box(payload), &mut output));
+        black_box(job(black_box(input), &mut output));
         start.elapsed()
     })
 }
 
-fn table(job: &str, made: &str, row: fn(&str, &[u8])) {
+fn table(job: &str, made: &str, inputs: &[Input], row: fn(&str, &[u8])) {
     println!("| {job} | bytes | {made} | Rust ms | here ms | here / Rust |");
     println!("|---|--:|--:|--:|--:|--:|");
-    for (input, make) in INPUTS {
+    for (input, make) in inputs {
         let payload = make(1);
         assert!(payload.len() <= LIMIT);
         row(input, &payload);
@@ -186,7 +231,7 @@ fn write_row(input: &str, payload: &[u8]) {
     print_row(input, payload, rows, rust, here);
 }
 
-/// Hands on what the Rust makes of a payload, and then frees all that it allocated.
+/// Hands on what the Rust makes of a payload or a sheet, and then frees all that it allocated.
 type Rust = fn(&[u8], &mut dyn FnMut(&[u8]));
 
 fn rust_list(payload: &[u8], done: &mut dyn FnMut(&[u8])) {
@@ -208,24 +253,36 @@ fn rust_card(payload: &[u8], done: &mut dyn FnMut(&[u8])) {
     rust_copy(payload, &mut |copy| rust_list(copy, done));
 }
 
-fn made_row(input: &str, payload: &[u8], job: Job, rust: Rust) {
+fn rust_to_sheet(payload: &[u8], done: &mut dyn FnMut(&[u8])) {
+    let parsed = black_box(parse_srci(black_box(payload))).unwrap();
+    let sheet = black_box(sheet_of(&parsed));
+    done(sheet.as_bytes());
+}
+
+fn rust_from_sheet(sheet: &[u8], done: &mut dyn FnMut(&[u8])) {
+    let document = black_box(read_sheet(black_box(sheet))).unwrap();
+    let payload = black_box(document.write_payload());
+    done(&payload);
+}
+
+fn made_row(input: &str, bytes: &[u8], job: Job, rust: Rust) {
     let mut made = vec![];
-    rust(payload, &mut |bytes| made = bytes.to_vec());
-    assert!(make(job, payload).is_ok_and(|here| here == made), "{input}");
+    rust(bytes, &mut |bytes| made = bytes.to_vec());
+    assert!(make(job, bytes).is_ok_and(|here| here == made), "{input}");
     let rust = best(|| {
         let mut took = Duration::ZERO;
         let start = Instant::now();
-        rust(payload, &mut |_| took = start.elapsed());
+        rust(bytes, &mut |_| took = start.elapsed());
         took
     });
-    let here = output_time(job, payload);
-    print_row(input, payload, made.len(), rust, here);
+    let here = output_time(job, bytes);
+    print_row(input, bytes, made.len(), rust, here);
 }
 
-fn print_row(input: &str, payload: &[u8], made: usize, rust: Duration, here: Duration) {
+fn print_row(input: &str, bytes: &[u8], made: usize, rust: Duration, here: Duration) {
     println!(
         "| {input} | {} | {made} | {:.2} | {:.2} | {:.2} |",
-        payload.len(),
+        bytes.len(),
         rust.as_secs_f64() * 1e3,
         here.as_secs_f64() * 1e3,
         here.as_secs_f64() / rust.as_secs_f64()

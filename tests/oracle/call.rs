@@ -41,16 +41,16 @@ pub fn write(payload: &[u8], edit: &[u8], rows: &[u32], output: &mut [u8]) -> An
     Answer { number, second }
 }
 
-/// A job that takes a payload and an output, by its entry point.
+/// A job that takes an input and an output, by its entry point. The input is a payload or a sheet.
 macro_rules! job {
     ($job:ident, $entry:ident) => {
-        pub fn $job(payload: &[u8], output: &mut [u8]) -> Answer {
+        pub fn $job(input: &[u8], output: &mut [u8]) -> Answer {
             let mut second = UNTOUCHED;
             // SAFETY: each pointer and length is that of a slice, and the entry point has no `requires`.
             let number = unsafe {
                 sys::$entry(
-                    payload.as_ptr(),
-                    payload.len(),
+                    input.as_ptr(),
+                    input.len(),
                     output.as_mut_ptr(),
                     output.len(),
                     &mut second,
@@ -64,13 +64,30 @@ macro_rules! job {
 job!(list, srci_list);
 job!(public_copy, srci_public_copy);
 job!(card, srci_card);
+job!(to_sheet, srci_to_sheet);
+
+/// The way back from a sheet has no entry point yet: the reading over the Rust stands in for it, so that sheets are read
+/// and go out again. Nothing is said here of any other reading.
+pub fn from_sheet(sheet: &[u8], output: &mut [u8]) -> Answer {
+    let answer = |number, second| Answer { number, second };
+    match crate::rust_sheet::from_sheet(sheet) {
+        Err((number, second)) => answer(number, second),
+        Ok(payload) => match output.get_mut(..payload.len()) {
+            Some(room) => {
+                room.copy_from_slice(&payload);
+                answer(0, payload.len() as u32)
+            }
+            None => answer(19, payload.len() as u32),
+        },
+    }
+}
 
 pub type Job = fn(&[u8], &mut [u8]) -> Answer;
 
-/// What a job makes of a payload, or the number of its refusal.
-pub fn make(job: Job, payload: &[u8]) -> Result<Vec<u8>, u32> {
-    let mut output = vec![UNTOUCHED_BYTE; job(payload, &mut []).second as usize];
-    match job(payload, &mut output).number {
+/// What a job makes of an input, or the number of its refusal.
+pub fn make(job: Job, input: &[u8]) -> Result<Vec<u8>, u32> {
+    let mut output = vec![UNTOUCHED_BYTE; job(input, &mut []).second as usize];
+    match job(input, &mut output).number {
         0 => Ok(output),
         number => Err(number),
     }
@@ -105,8 +122,8 @@ pub fn read_guarded(payload: &[u8], lent: usize) -> Result<(Answer, Vec<u32>), &
 /// What every byte of an output, and of the canaries beside it, holds before a call.
 pub const UNTOUCHED_BYTE: u8 = 0xA5;
 
-/// Longer inputs are not compared with how they were before a call of writing.
-const COMPARED: usize = 1 << 26;
+/// Longer inputs are not compared with how they were before a call. The longest sheet of a payload is.
+const COMPARED: usize = 1 << 27;
 
 /// Writes to an output of some length that has canaries on both sides. Gives the answer and the output
 /// afterwards, or says what else was changed.
@@ -128,12 +145,12 @@ pub fn write_guarded(
 
 /// Does a job with an output of some length that has canaries on both sides. Gives the answer and the output
 /// afterwards, or says what else was changed.
-pub fn guarded(job: Job, payload: &[u8], lent: usize) -> Result<(Answer, Vec<u8>), &'static str> {
-    let before = payload.to_vec();
+pub fn guarded(job: Job, input: &[u8], lent: usize) -> Result<(Answer, Vec<u8>), &'static str> {
+    let before = (input.len() <= COMPARED).then(|| input.to_vec());
     let mut bytes = vec![UNTOUCHED_BYTE; CANARIES + lent + CANARIES];
-    let answer = job(payload, &mut bytes[CANARIES..CANARIES + lent]);
-    if payload != before {
-        return Err("the payload was changed");
+    let answer = job(input, &mut bytes[CANARIES..CANARIES + lent]);
+    if before.is_some_and(|before| input != before) {
+        return Err("the input was changed");
     }
     Ok((answer, between_canaries(bytes, lent)?))
 }

@@ -160,12 +160,12 @@ impl Totals {
     }
 }
 
-/// Says what is different in a call on a payload, with a table or an output of some length.
-pub fn fail(payload: &[u8], lent: usize, what: &str) -> ! {
+/// Says what is different in a call on a payload or a sheet, with a table or an output of some length.
+pub fn fail(input: &[u8], lent: usize, what: &str) -> ! {
     println!("DIFFERENT: {what}");
     println!("lent: {lent}");
-    let shown = &payload[..payload.len().min(4096)];
+    let shown = &input[..input.len().min(4096)];
     let hex: String = shown.iter().map(|byte| format!("{byte:02x}")).collect();
-    println!("payload: {} bytes, {hex}", payload.len());
+    println!("input: {} bytes, {hex}", input.len());
     std::process::exit(1);
 }

@@ -52,7 +52,7 @@ impl Compare for CopyTotals {
 }
 
 /// A byte short, half, the main header alone, nothing.
-fn shorter(copy: &[u8]) -> Vec<usize> {
+pub fn shorter(copy: &[u8]) -> Vec<usize> {
     let needed = copy.len();
     vec![needed - 1, needed / 2, 8 % needed, 0]
 }

@@ -12,7 +12,7 @@ pub fn compare_all(totals: &mut impl Compare) {
 }
 
 /// 0, and the numbers from 1 to a bound that are a power of 10, or one less or more.
-fn digit_edges(bound: u64) -> Vec<u64> {
+pub fn digit_edges(bound: u64) -> Vec<u64> {
     let powers = (0..20).map(|power| 10u64.pow(power));
     let mut edges: Vec<u64> = powers.flat_map(|n| [n - 1, n, n + 1]).collect();
     edges.push(bound);

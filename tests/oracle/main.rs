@@ -14,7 +14,11 @@ mod pairs;
 mod payloads;
 mod rust_made;
 mod rust_rows;
+mod rust_sheet;
 mod rust_write;
+mod sheet;
+mod sheet_boundaries;
+mod sheet_damage;
 mod tables;
 mod write;
 mod write_boundaries;
@@ -25,6 +29,7 @@ use copy::CopyTotals;
 use damage::damage;
 use pairs::PairTotals;
 use payloads::{any_payload, Random};
+use sheet::SheetTotals;
 use write::WriteTotals;
 
 fn main() {
@@ -38,6 +43,7 @@ fn main() {
             compare_listing(number(count), number(seed));
             compare_copying(number(count), number(seed));
             compare_card(number(count), number(seed));
+            compare_sheets(number(count), number(seed));
             compare_pairs(number(count), number(seed));
         }
         _ => usage(),
@@ -97,6 +103,20 @@ fn compare_card(count: u64, seed: u64) {
     let mut totals = CardTotals::new();
     compare_public(&mut totals, count, seed ^ 0x0CA5_CADE);
     println!("cards");
+    totals.print();
+}
+
+/// Every boundary of reading, of copying and of its own, then random payloads and random sheets, others than those
+/// before. A sheet has none of the numbers that a listing has at its edges.
+fn compare_sheets(count: u64, seed: u64) {
+    let mut totals = SheetTotals::new();
+    let mut random = Random::new(seed ^ 0x05EE_DBED);
+    boundaries::compare_all(&mut totals);
+    copy_boundaries::compare_all(&mut totals);
+    sheet_boundaries::compare_all(&mut totals);
+    compare_random(&mut totals, count, &mut random);
+    totals.compare_random(count, &mut random);
+    println!("sheets");
     totals.print();
 }
 

@@ -4,15 +4,11 @@ use crate::compare::{fail, Compare};
 use crate::rust_made::Made;
 
 pub struct Outputs {
-    job: Job,
     rust: fn(&[u8]) -> Made,
-    /// Lengths, each less than that of the bytes that are made.
-    shorter: fn(&[u8]) -> Vec<usize>,
     payloads: u64,
     accepted: u64,
     panicked: u64,
-    calls: u64,
-    by_number: [u64; 20],
+    calls: Calls,
 }
 
 impl Compare for Outputs {
@@ -21,7 +17,7 @@ impl Compare for Outputs {
             Made::Bytes(bytes) => {
                 self.payloads += 1;
                 self.accepted += 1;
-                self.expect_made(payload, &bytes);
+                self.calls.expect_made(payload, &bytes);
             }
             // the Rust does not say why, and reading, which is compared by itself, does
             Made::Refused => {
@@ -45,7 +41,7 @@ impl Compare for Outputs {
             fail(payload, 0, &format!("reading answers {number}"));
         }
         for lent in [0, 36, 1_000] {
-            self.expect(payload, lent, expected, 0, &[]);
+            self.calls.expect(payload, lent, expected, 0, &[]);
         }
     }
 }
@@ -53,41 +49,66 @@ impl Compare for Outputs {
 impl Outputs {
     pub fn new(job: Job, rust: fn(&[u8]) -> Made, shorter: fn(&[u8]) -> Vec<usize>) -> Self {
         Outputs {
-            job,
             rust,
-            shorter,
             payloads: 0,
             accepted: 0,
             panicked: 0,
-            calls: 0,
-            by_number: [0; 20],
+            calls: Calls::new(job, shorter),
         }
     }
 
-    fn expect_made(&mut self, payload: &[u8], bytes: &[u8]) {
+    pub fn print(&self) {
+        println!("{} payloads", self.payloads);
+        println!("  {} accepted by the Rust", self.accepted);
+        println!("  {} on which the Rust panics", self.panicked);
+        self.calls.print((0..16).chain([19]));
+    }
+}
+
+/// Calls of a job, each with its whole answer known before.
+pub struct Calls {
+    job: Job,
+    /// Lengths, each less than that of the bytes that are made.
+    shorter: fn(&[u8]) -> Vec<usize>,
+    calls: u64,
+    by_number: [u64; 21],
+}
+
+impl Calls {
+    pub fn new(job: Job, shorter: fn(&[u8]) -> Vec<usize>) -> Self {
+        Calls {
+            job,
+            shorter,
+            calls: 0,
+            by_number: [0; 21],
+        }
+    }
+
+    /// The job makes these bytes of an input: an output for each case that their length makes.
+    pub fn expect_made(&mut self, input: &[u8], bytes: &[u8]) {
         let needed = bytes.len();
         // exactly full, a byte longer, many bytes longer
         for lent in [needed, needed + 1, needed + 67] {
-            self.expect(payload, lent, 0, needed as u32, bytes);
+            self.expect(input, lent, 0, needed as u32, bytes);
         }
         for lent in (self.shorter)(bytes) {
-            self.expect(payload, lent, 19, needed as u32, &[]);
+            self.expect(input, lent, 19, needed as u32, &[]);
         }
     }
 
     /// One call. The output must begin with the bytes, and hold what it held before from there on.
-    pub fn expect(&mut self, payload: &[u8], lent: usize, number: u32, second: u32, bytes: &[u8]) {
-        let (answer, output) = match guarded(self.job, payload, lent) {
+    pub fn expect(&mut self, input: &[u8], lent: usize, number: u32, second: u32, bytes: &[u8]) {
+        let (answer, output) = match guarded(self.job, input, lent) {
             Ok(made) => made,
-            Err(what) => fail(payload, lent, what),
+            Err(what) => fail(input, lent, what),
         };
         if answer.number != number {
             let what = format!("the number is {}, not {number}", answer.number);
-            fail(payload, lent, &what);
+            fail(input, lent, &what);
         }
         if answer.second != second {
             let what = format!("the second number is {}, not {second}", answer.second);
-            fail(payload, lent, &what);
+            fail(input, lent, &what);
         }
         let (stored, rest) = output.split_at(bytes.len());
         if stored != bytes {
@@ -96,30 +117,26 @@ impl Outputs {
             let shown = at.saturating_sub(40)..bytes.len().min(at + 40);
             let [stored, bytes] = [stored, bytes].map(|all| all[shown.clone()].escape_ascii());
             fail(
-                payload,
+                input,
                 lent,
                 &format!("at {at} it has \"{stored}\", not \"{bytes}\""),
             );
         }
         if rest.iter().any(|&byte| byte != UNTOUCHED_BYTE) {
-            fail(payload, lent, "a byte past the stored ones was changed");
+            fail(input, lent, "a byte past the stored ones was changed");
         }
         self.calls += 1;
         self.by_number[number as usize] += 1;
     }
 
-    pub fn print(&self) {
-        println!("{} payloads", self.payloads);
-        println!("  {} accepted by the Rust", self.accepted);
-        println!("  {} on which the Rust panics", self.panicked);
+    /// How many calls had each of these numbers.
+    pub fn print(&self, numbers: impl IntoIterator<Item = usize>) {
         println!(
             "{} calls, all as they should be; by their number:",
             self.calls
         );
-        for (number, calls) in self.by_number.iter().enumerate() {
-            if number < 16 || number == 19 {
-                println!("  {number:2}: {calls}");
-            }
+        for number in numbers {
+            println!("  {number:2}: {}", self.by_number[number]);
         }
     }
 }

@@ -36,7 +36,8 @@ pub fn card(payload: &[u8]) -> Made {
     }
 }
 
-fn made(payload: &[u8], make: fn(SourceInfo) -> Vec<u8>) -> Made {
+/// What is made of a payload, if the Rust parses it.
+pub fn made(payload: &[u8], make: fn(SourceInfo) -> Vec<u8>) -> Made {
     match catch(|| parse_srci(payload).map(make)) {
         Some(Some(bytes)) => Made::Bytes(bytes),
         Some(None) => Made::Refused,

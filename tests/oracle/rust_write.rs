@@ -147,7 +147,8 @@ fn sections_of<'a>(
     Ok(sections)
 }
 
-fn plain<'a>(field: u32) -> SourceInfoSectionData<'a> {
+/// A plain contents section without entries.
+pub fn plain<'a>(field: u32) -> SourceInfoSectionData<'a> {
     SourceInfoSectionData::SourceContents(SourceContents {
         aligned_size_in_bytes: field,
         flags: 0,
@@ -168,7 +169,7 @@ fn up_to_4(length: u128) -> u128 {
 }
 
 /// Whether sections are few and short enough.
-fn fits(sections: &[SourceInfoSection]) -> bool {
+pub fn fits(sections: &[SourceInfoSection]) -> bool {
     let mut total = 8;
     for section in sections {
         total += up_to_4(match &section.data {

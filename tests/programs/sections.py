@@ -1,13 +1,14 @@
-"""Sections of a payload, each with what the listing and the card say of it: worked out from what a section is made
-of, and never from its bytes."""
+"""Sections of a payload, each with what the listing, the card and the sheet say of it: worked out from what a section
+is made of, and never from its bytes."""
 import struct
-from typing import NamedTuple, Optional
+from typing import Callable, Iterable, NamedTuple, Optional
 
 
 class Section(NamedTuple):
     data: bytes
     listed: str  # its line after the place in brackets
     on_card: Optional[str]  # the same on the card, which has no line of an unknown section
+    on_sheet: Callable[[], Iterable[bytes]]  # its lines, which are many: they are made when they are asked for
 
 
 def padded(data):
@@ -27,17 +28,36 @@ def entry(fields, text):
     return struct.pack(f"<III{len(fields)}I", len(data), 0, len(text) + 1, *fields) + data[size:]
 
 
-def contents(*texts):
+def on_sheet(*fields):
+    """A line of a sheet: its word, and numbers, bytes and texts as they stand there."""
+    return b"\t".join(b"%d" % field if isinstance(field, int) else field for field in fields) + b"\n"
+
+
+def escaped(text):
+    # backslashes first: the other escapes bring more of them
+    return text.replace(b"\\", b"\\\\").replace(b"\t", b"\\t").replace(b"\n", b"\\n")
+
+
+def contents(*texts, field=0):
     stored = b"".join(entry([], text) for text in texts)
-    head = struct.pack("<IHHIII", 0, 0, 0, len(stored), len(stored), len(texts))
+    head = struct.pack("<IHHIII", field, 0, 0, len(stored), len(stored), len(texts))
     line = f"SourceContents: {len(texts)} uncompressed file(s)"
-    return Section(section(0, head + stored), line, line)
+
+    def lines():
+        yield on_sheet(b"contents", field)
+        yield from (on_sheet(b"content", escaped(text)) for text in texts)
+
+    return Section(section(0, head + stored), line, line, lines)
 
 
-def packed(stored, count, unpacked=900):
-    head = struct.pack("<IHHIII", 0, 0, 1, len(stored), unpacked, count)
+def packed(stored, count, unpacked=900, field=0):
+    head = struct.pack("<IHHIII", field, 0, 1, len(stored), unpacked, count)
     listed, on_card = (f"SourceContents: {count} zlib file(s), {size} bytes" for size in (len(stored), 0))
-    return Section(section(0, head + stored), listed, on_card)
+
+    def lines():
+        yield on_sheet(b"packed", field, count, unpacked, stored.hex().encode())
+
+    return Section(section(0, head + stored), listed, on_card, lines)
 
 
 def names(*files):
@@ -45,19 +65,33 @@ def names(*files):
     stored = b"".join(entry([size], name) for name, size in files)
     head = struct.pack("<IIH", 0, len(files), len(stored))
     line = f"SourceNames: {len(files)} file(s)"
-    return Section(section(1, head + stored), line, line)
+
+    def lines():
+        yield on_sheet(b"names")
+        yield from (on_sheet(b"name", size, escaped(name)) for name, size in files)
+
+    return Section(section(1, head + stored), line, line, lines)
 
 
 def arguments(*pairs):
     stored = b"".join(name + b"\0" + value + b"\0" for name, value in pairs)
     head = struct.pack("<III", 0, len(stored), len(pairs))
     line = f"Arguments: {len(pairs)} pair(s)"
-    return Section(section(2, head + stored), line, line)
+
+    def lines():
+        yield on_sheet(b"arguments")
+        yield from (on_sheet(b"pair", escaped(name), escaped(value)) for name, value in pairs)
+
+    return Section(section(2, head + stored), line, line, lines)
 
 
 def unknown(kind, body=b""):
     assert kind >= 3 and len(body) % 4 == 0
-    return Section(section(kind, body), f"Unknown(0x{kind:04X}): {len(body)} bytes", None)
+
+    def lines():
+        yield on_sheet(b"unknown", kind, body.hex().encode())
+
+    return Section(section(kind, body), f"Unknown(0x{kind:04X}): {len(body)} bytes", None, lines)
 
 
 def payload(*sections):
@@ -77,3 +111,7 @@ def listing(*sections):
 
 def card(*sections):
     return lines([section.on_card for section in sections if section.on_card is not None])
+
+
+def sheet(*sections):
+    return b"".join(line for section in sections for line in section.on_sheet())

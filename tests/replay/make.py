@@ -7,17 +7,18 @@ r"""Writes the calls and the expected answers of the program replay.
     tests/oracle/run.sh PATH_TO_SRCI_RS cards 60 4 > target/cards.tsv
     tests/replay/make.py read READ read tests/replay/samples.tsv read target/rows.tsv write WRITE \
         list LIST list tests/replay/list_samples.tsv list target/listings.tsv \
-        public_copy COPY public_copy target/copies.tsv card REFUSED card target/cards.tsv
+        public_copy COPY public_copy target/copies.tsv card REFUSED card target/cards.tsv to_sheet TO_SHEET
 
 The arguments are jobs, each with a list of its calls. READ, WRITE, LIST and COPY are the lists of an
 independent model of document 01; they are not in this repository. REFUSED has, for each refusal from 2 to 15,
-the first three calls of COPY that get it: a refused payload has no public copy, and so no card.
+the first three calls of COPY that get it: a refused payload has no public copy, and so no card. TO_SHEET is the list of
+a model of request (a) of document 02.
 
 A list has a call to a line, its fields parted by tabs; '-' is empty, bytes are hex, and lists have commas. A
 line that begins with '#' is passed over. Of reading: the payload, how many numbers are lent, the number,
 the second number, and the numbers of the stored rows. Of writing: the payload, the edit text, the table's
 numbers, how many bytes are lent, the number, the second number, and the stored bytes. Of listing, of
-making public copies, and of making cards: the payload, how many bytes are lent, the number, the second number, and the stored bytes.
+making public copies, of making cards and of making sheets: the payload, how many bytes are lent, the number, the second number, and the stored bytes.
 """
 import pathlib
 import sys
@@ -25,7 +26,7 @@ import sys
 NUMBERS = 128  # the table of the program has so many numbers
 BYTES = 512  # and its output so many bytes
 LONGEST = 4096  # and it takes payloads and edit texts of so many bytes
-SIZE = 262144  # and a file of calls of so many bytes
+SIZE = 524288  # and a file of calls of so many bytes
 
 
 def listed(word):
@@ -52,7 +53,7 @@ def made(payload, lent, number, second, stored):
     return [lent, payload], [number, second, str(BYTES - len(stored) // 2), stored]
 
 
-JOBS = {"read": read, "write": write, "list": made, "public_copy": made, "card": made}
+JOBS = {"read": read, "write": write, "list": made, "public_copy": made, "card": made, "to_sheet": made}
 
 
 def main(words):

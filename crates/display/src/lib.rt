@@ -1,5 +1,5 @@
 // The lines of a listing and of a card, stored in a lent output: the heading, the line of a section, and the line of
-// a refused call.
+// a refused call; and a number in decimal.
 //
 // Proved: every function is total, has no `requires`, and stores and answers just what crate format defines
 // (specs/Display.antt, specs/Print.antt). What would be stored past the end is dropped. Nothing is assumed.
@@ -16,6 +16,7 @@ ghost use Rattle.format.specs.Print.{numberLine};
 ghost use Rattle.display.specs.Summary.{summaryLine};
 use crate::number::write_number;
 pub use line::Summary;
+pub use number::write_decimal;
 
 // The first line, of so many sections. Answers its length.
 pub fn write_heading(output: &mut [u8], count: u32) -> usize

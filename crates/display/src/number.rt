@@ -7,16 +7,16 @@ ghost use lib.Seq.{sets};
 ghost use Rattle.format.specs.Display.{decimal, hex};
 ghost use Rattle.format.specs.Display.{digit as Display·digit};
 
-// A number in decimal. Answers the place after it.
-fn write_decimal(output: &mut [u8], at: usize, n: u32) -> usize
-    requires { ⌜ at ≤ 2 ^ 50 ⌝ }
-    ensures { λ r. ⌜ r ≡ at + length (decimal n) ⌝ }
+// A number in decimal. Answers its length.
+pub fn write_decimal(output: &mut [u8], at: usize, n: u32) -> usize
+    ensures { λ r. ⌜ r ≡ length (decimal n) ⌝ }
+    ensures { λ r. ⌜ r ≤ 10 ⌝ }
     ensures { λ _. ⌜ now (output .exit) ≡ sets (now (output .entry)) at (decimal n) ⌝ }
 {
     let mut digits = [0u8; 20];
     let count = io::decimal(n as u64, &mut digits);
     wire::write_bytes(output, at, &digits[..count]);
-    at + count
+    count
 }
 
 // A number in decimal, and a text. Answers the place after them.
@@ -27,7 +27,7 @@ pub fn write_number(output: &mut [u8], at: usize, n: u32, text: &[u8]) -> usize
     ensures { λ r. ⌜ r ≤ at + 10 + length (now (text .entry)) ⌝ }
     ensures { λ _. ⌜ now (output .exit) ≡ sets (now (output .entry)) at (decimal n ++ now (text .entry)) ⌝ }
 {
-    let next = write_decimal(output, at, n);
+    let next = at + write_decimal(output, at, n);
     wire::write_bytes(output, next, text);
     next + text.len()
 }

@@ -21,24 +21,24 @@ use Rattle.format.proofs.FactsOf.{factOf, factsOf}
 use Rattle.format.proofs.PairBytes.{nul-found}
 use Rattle.format.proofs.SectionBytes.{filled, length-section}
 use Rattle.format.proofs.SectionsFound.{Here, paired-flatMap, encoded-here}
-use Rattle.format.proofs.Stands.{Stands, stands-first, stands-next, stands-part}
+use Rattle.format.proofs.Stands.{Stands, stands-first, stands-next, stands-part, spells}
 
 module _ (p : List ℕ) (small : length p ≤ limit) where
   -- ---- the names and the pairs of a section
 
-  -- what is found at the place of a name: its text, and its entry's size
-  name-found :
+  -- what is found at the place of a name: its text, its entry's size, and its content's
+  pub name-found :
       (at : ℕ) (x : Name) →
       NameOk x →
       at + length (nameEntry x) ≤ length p →
       Stands p at (nameEntry x) →
-      (part p (at + 16) (u32At p (at + 8) - 1) ≡ x .text) × (u32At p at ≡ length (nameEntry x))
+      (part p (at + 16) (u32At p (at + 8) - 1) ≡ x .text) × (u32At p at ≡ length (nameEntry x)) × (u32At p (at + 12) ≡ x .contentSize)
   name-found at x ok room s =
       let size : ℕ = x .contentSize in
       let spans = length-nameEntry x in
       let (g, middle, this) = stands-fields 16 (u32 size) (name-header size) p at (length p) (omega arith) (x .text) small (ok .text) (omega arith) (rw name-is at s) in
       let long : u32At p (at + 8) - 1 ≡ length (x .text) = omega (arith, g .text) in
-      (ap (λ (k : ℕ). part p (at + 16) k) long ∙ stands-part p (at + 16) (x .text) this, omega (arith, g .size))
+      (ap (λ (k : ℕ). part p (at + 16) k) long ∙ stands-part p (at + 16) (x .text) this, omega (arith, g .size), spells p 4 (at + 12) size (ok .size) middle)
 
   names-found :
       (ns : List Name) (at : ℕ) →
@@ -50,7 +50,7 @@ module _ (p : List ℕ) (small : length p ≤ limit) where
   names-found [] at oks room s = refl
   names-found (x ∷ ns) at (ok, oks) room s =
       let sizes = length-append (nameEntry x) (flatMap nameEntry ns) in
-      let (text, size) = name-found at x ok (omega arith) (stands-first p at (nameEntry x) (flatMap nameEntry ns) s) in
+      let (text, size, content) = name-found at x ok (omega arith) (stands-first p at (nameEntry x) (flatMap nameEntry ns) s) in
       let next : ℕ = at + u32At p at in
       let rest = names-found ns next oks (omega arith) (stands-next p at (nameEntry x) (flatMap nameEntry ns) next (omega arith) s) in
       ap₂ (λ (t : List ℕ) (l : List (List ℕ)). t ∷ l) text rest
@@ -59,7 +59,7 @@ module _ (p : List ℕ) (small : length p ≤ limit) where
   text-found at text ok s =
       ap (λ (k : ℕ). part p at k) (nul-found p at text ok s) ∙ stands-part p at text (stands-first p at text (0 ∷ []) s)
 
-  pairs-found :
+  pub pairs-found :
       (xs : List Pair) (at : ℕ) →
       All PairOk xs →
       Stands p at (flatMap pairEntry xs) →

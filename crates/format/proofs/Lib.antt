@@ -34,6 +34,7 @@ pub mod PayloadStands
 pub mod PayloadRead
 -- What rows say
 pub mod RowsByTag
+pub mod RecordsByTag
 pub mod RowRules
 pub mod RowsSay
 pub mod RowsStand
@@ -42,6 +43,8 @@ pub mod Encoded
 pub mod RowsInOrder
 pub mod Promises
 pub mod RoundTrips
+pub mod Records
+pub mod RecordsOk
 pub mod SaidSections
 pub mod Renaming
 -- The walk over sections

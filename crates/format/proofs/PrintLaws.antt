@@ -13,7 +13,7 @@ use lib.Seq.{sets, sets-eq}
 use Rattle.layout.specs.Checked.{Checked, fault, good}
 use Rattle.layout.specs.Refusals.{refusalNumber}
 use Rattle.layout.specs.declared.refusal.Refusal.{Refusal}
-use Rattle.layout.specs.declared.refusal.Refusal.the-variants.{Oversize, Ragged, MainHeader, Frame, Flag, Short, BodySize, Padding, EntrySize, OpenText, NotUtf8, InnerNul, Leftover, Compression, Unequal, NoRows, BadRow, WontFit, NoRoom}
+use Rattle.layout.specs.declared.refusal.Refusal.the-variants.{Oversize, Ragged, MainHeader, Frame, Flag, Short, BodySize, Padding, EntrySize, OpenText, NotUtf8, InnerNul, Leftover, Compression, Unequal, NoRows, BadRow, WontFit, NoRoom, BadLine}
 use Rattle.layout.specs.declared.refusal.Answer.{Answer}
 use Rattle.layout.specs.declared.refusal.Answer.the-variants.{Accepted, Refused}
 use Rattle.format.specs.Display.{ascii, decimal}
@@ -35,7 +35,7 @@ unfolding ascii
 longer-short = omega arith
 
 -- the line of a refusal is short
-refusal-small : (refusal : Refusal) → refusalNumber refusal ≤ 19
+refusal-small : (refusal : Refusal) → refusalNumber refusal ≤ 99
 refusal-small Oversize = omega arith
 refusal-small Ragged = omega arith
 refusal-small MainHeader = omega arith
@@ -55,6 +55,7 @@ refusal-small (NoRows n) = omega arith
 refusal-small BadRow = omega arith
 refusal-small WontFit = omega arith
 refusal-small (NoRoom n) = omega arith
+refusal-small (BadLine n) = omega arith
 
 refused-short : (refusal : Refusal) → length (refusedLine refusal) ≤ 14
 unfolding ascii

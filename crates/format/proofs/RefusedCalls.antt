@@ -35,7 +35,7 @@ use Rattle.format.proofs.RoundTrips.{lists-sections}
 use Rattle.format.proofs.Secrecy.{copy-of-facts}
 
 -- a call that is refused by a fault of what its job goes by, and else makes bytes
-refused-call :
+pub refused-call :
     {A : Type 0} (c : Checked A) (made : Checked (List ℕ)) (Number : ℕ → Type 0) →
     ((r : Refusal) → c ≡ fault r → Number (refusalNumber r) × (refusalSecond r ≡ 0)) →
     ((r : Refusal) → c ≡ fault r → made ≡ fault r) →

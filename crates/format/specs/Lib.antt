@@ -5,6 +5,7 @@ pub mod WellFormed
 -- Rows: what they may hold, and what they say
 pub mod Rules
 pub mod Resolve
+pub mod Records
 pub mod Said
 -- The jobs and their refusals: reading, writing, listing
 pub mod Parse

@@ -6,7 +6,7 @@
 //   Layout           Sections (what a payload says), Encoding (its bytes, and the limits), WellFormed (what
 //                    sections must be)
 //   Rows             Rules (what a row may hold and follow), Resolve (the sections that rows say), Said (what one
-//                    row says, places apart)
+//                    row says, places apart), Records (what a row and a line of a sheet both hold, and its sections)
 //   Refused calls    Parse (reading, fault by fault), Read, Write, Listing (the jobs with what they are
 //                    lent), Output (lent output, whichever job), RefusedCalls (which job has which refusals)
 //   Public copy      PublicCopy, PublicFacts, Secrecy (what a holder of the copy can learn),

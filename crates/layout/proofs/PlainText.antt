@@ -12,9 +12,8 @@ use Rattle.wire.specs.Nul.{untilNul}
 use Rattle.wire.proofs.NulLaws.{until-at}
 use Rattle.utf8.proofs.Laws.{ascii-well-formed}
 use Rattle.layout.specs.Checked.{good}
-use Rattle.layout.specs.Spans.{part}
-use Rattle.layout.specs.TextCheck.{checkText}
-use Rattle.layout.proofs.TextCheck.{check-passed}
+use Rattle.layout.specs.TextCheck.{checkWhole}
+use Rattle.layout.proofs.TextCheck.{whole-passed}
 
 module _ (s : List ℕ) (plain : (k : ℕ) → k < length s → (0 < getD s k 0) × (getD s k 0 < 0x80)) where
   no-nul : length s ≤ untilNul s
@@ -24,5 +23,5 @@ module _ (s : List ℕ) (plain : (k : ℕ) → k < length s → (0 < getD s k 0)
       go true e = let h = ltb-true _ _ e in absurd (omega (arith, until-at s h, plain (untilNul s) h .0))
       go false e = ltb-false _ _ e
 
-  pub plain-passes : (bytes : List ℕ) (start count : ℕ) → s ≡ part bytes start count → checkText bytes start count ≡ good tt
-  plain-passes bytes start count is = check-passed bytes start count s is (ascii-well-formed s (λ k h. plain k h .1)) no-nul
+  pub plain-passes : checkWhole s ≡ good tt
+  plain-passes = whole-passed s (ascii-well-formed s (λ k h. plain k h .1)) no-nul

@@ -5,7 +5,7 @@ use mathlib.Core.List.{List, [], _∷_, map}
 use lib.ListN.{getD}
 use Rattle.layout.specs.declared.compression.SourceCompression.the-variants.{None, Zlib}
 use Rattle.layout.specs.declared.refusal.Refusal.{Refusal}
-use Rattle.layout.specs.declared.refusal.Refusal.the-variants.{Oversize, Ragged, MainHeader, Frame, Flag, Short, BodySize, Padding, EntrySize, OpenText, NotUtf8, InnerNul, Leftover, Compression, Unequal, NoRows, BadRow, WontFit, NoRoom}
+use Rattle.layout.specs.declared.refusal.Refusal.the-variants.{Oversize, Ragged, MainHeader, Frame, Flag, Short, BodySize, Padding, EntrySize, OpenText, NotUtf8, InnerNul, Leftover, Compression, Unequal, NoRows, BadRow, WontFit, NoRoom, BadLine}
 use Rattle.layout.specs.declared.refusal.Answer.{Answer}
 use Rattle.layout.specs.declared.refusal.Answer.the-variants.{Accepted, Refused}
 use Rattle.layout.specs.Kinds.{sectionType, kindNumber}
@@ -47,6 +47,7 @@ refusals second =
     BadRow ∷
     WontFit ∷
     NoRoom second ∷
+    BadLine second ∷
     []
 
 -- the answer that two numbers stand for
@@ -75,6 +76,7 @@ answer-back (Refused (NoRows rows)) = refl
 answer-back (Refused BadRow) = refl
 answer-back (Refused WontFit) = refl
 answer-back (Refused (NoRoom bytes)) = refl
+answer-back (Refused (BadLine line)) = refl
 
 pub numbers-tell-answers : NumbersTellAnswers
 numbers-tell-answers a b n s = sym (answer-back a) ∙ ap₂ answerOf n s ∙ answer-back b

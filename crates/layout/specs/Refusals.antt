@@ -1,7 +1,7 @@
--- Document 01's number and second number for every case of an answer.
+-- Document 01's number and second number for every case of an answer, with those that the requests of document 02 add.
 use Prim.Native.Nat.{ℕ}
 use Rattle.layout.specs.declared.refusal.Refusal.{Refusal}
-use Rattle.layout.specs.declared.refusal.Refusal.the-variants.{Oversize, Ragged, MainHeader, Frame, Flag, Short, BodySize, Padding, EntrySize, OpenText, NotUtf8, InnerNul, Leftover, Compression, Unequal, NoRows, BadRow, WontFit, NoRoom}
+use Rattle.layout.specs.declared.refusal.Refusal.the-variants.{Oversize, Ragged, MainHeader, Frame, Flag, Short, BodySize, Padding, EntrySize, OpenText, NotUtf8, InnerNul, Leftover, Compression, Unequal, NoRows, BadRow, WontFit, NoRoom, BadLine}
 use Rattle.layout.specs.declared.refusal.Answer.{Answer}
 use Rattle.layout.specs.declared.refusal.Answer.the-variants.{Accepted, Refused}
 
@@ -25,8 +25,9 @@ refusalNumber (NoRows rows) = 16
 refusalNumber BadRow = 17
 refusalNumber WontFit = 18
 refusalNumber (NoRoom bytes) = 19
+refusalNumber (BadLine line) = 20
 
--- rows needed for 16, bytes needed for 19, else 0
+-- rows needed for 16, bytes needed for 19, the line's number for 20, else 0
 abbrev pub refusalSecond : Refusal → ℕ
 refusalSecond Oversize = 0
 refusalSecond Ragged = 0
@@ -47,6 +48,7 @@ refusalSecond (NoRows rows) = rows
 refusalSecond BadRow = 0
 refusalSecond WontFit = 0
 refusalSecond (NoRoom bytes) = bytes
+refusalSecond (BadLine line) = line
 
 -- an accepted call has number 0, and its second number is how many rows or bytes were stored
 abbrev pub answerNumber : Answer → ℕ

@@ -10,13 +10,16 @@ use Rattle.layout.specs.declared.text_check.Check.{Check}
 use Rattle.layout.specs.declared.text_check.Check.the-variants.{Passed, Refused}
 use Rattle.layout.specs.declared.refusal.Refusal.the-variants.{NotUtf8, InnerNul}
 
--- checks so many of the bytes from a start on as a text
-unfoldable pub checkText : List ℕ → ℕ → ℕ → Checked (Unit {0})
-checkText bytes start count =
-    let text : List ℕ = part bytes start count in
+-- checks a whole text
+abbrev pub checkWhole : List ℕ → Checked (Unit {0})
+checkWhole text =
     check (wellFormed text) NotUtf8 (λ _.
     check (not (hasNul text)) InnerNul (λ _.
     good tt))
+
+-- checks so many of the bytes from a start on as a text
+unfoldable pub checkText : List ℕ → ℕ → ℕ → Checked (Unit {0})
+checkText bytes start count = checkWhole (part bytes start count)
 
 -- the text that a span names
 abbrev pub checkSpan : List ℕ → List ℕ → Span → Checked (Unit {0})

@@ -17,6 +17,8 @@ pub use refusal::Answer;
 pub use refusal::Refusal;
 pub use section_type::SourceInfoSectionType;
 pub use text::bytes_of;
+pub use text::part_of;
 pub use text::text_of;
 pub use text_check::Check;
 pub use text_check::check_text;
+pub use text_check::check_whole;

@@ -42,6 +42,8 @@ pub enum Refusal {
     WontFit,
     // The output is too short; this many bytes are needed.
     NoRoom(u32),
+    // A line of a sheet is malformed or misplaced; this is its number, from 1.
+    BadLine(u32),
 }
 
 // What a call answers.
@@ -75,16 +77,18 @@ impl Refusal {
             Refusal::BadRow => 17,
             Refusal::WontFit => 18,
             Refusal::NoRoom(_) => 19,
+            Refusal::BadLine(_) => 20,
         }
     }
 
-    // Rows or bytes that are needed, where that is what was lacking, else 0.
+    // Rows or bytes that are needed, where that is what was lacking; a line's number; else 0.
     pub fn second(self) -> u32
         ensures { λ r. ⌜ r ≡ refusalSecond self ⌝ }
     {
         match self {
             Refusal::NoRows(rows) => rows,
             Refusal::NoRoom(bytes) => bytes,
+            Refusal::BadLine(line) => line,
             _ => 0,
         }
     }

@@ -3,7 +3,7 @@ ghost use mathlib.Core.Bool.{true};
 ghost use mathlib.Core.Path.{_≡_};
 ghost use Prim.Native.Nat.{ℕ, _<_};
 ghost use lib.ListN.{length, getD};
-ghost use Rattle.layout.specs.TextCheck.{checkText, verdict};
+ghost use Rattle.layout.specs.TextCheck.{checkWhole, checkText, verdict};
 use crate::refusal::Refusal;
 use crate::text::part_of;
 use utf8::Utf8;
@@ -39,12 +39,11 @@ fn is_plain(text: &[u8]) -> bool
     plain
 }
 
-// The text from `start` on. Of a plain text one look at each byte tells that it passes; any other is gone through twice,
+// A whole text. Of a plain one a single look at each byte tells that it passes; any other is gone through twice,
 // for its characters and for a NUL.
-pub fn check_text(bytes: &[u8], start: usize, text: TextLength) -> Check
-    ensures { λ r. ⌜ r ≡ verdict (checkText (now (bytes .entry)) start (text .0)) ⌝ }
+pub fn check_whole(text: &[u8]) -> Check
+    ensures { λ r. ⌜ r ≡ verdict (checkWhole (now (text .entry))) ⌝ }
 {
-    let text = part_of(bytes, start, text.0 as usize);
     if text.len() < SHORT {
         if is_plain(text) {
             return Check::Passed;
@@ -60,4 +59,11 @@ pub fn check_text(bytes: &[u8], start: usize, text: TextLength) -> Check
             }
         }
     }
+}
+
+// The text from `start` on.
+pub fn check_text(bytes: &[u8], start: usize, text: TextLength) -> Check
+    ensures { λ r. ⌜ r ≡ verdict (checkText (now (bytes .entry)) start (text .0)) ⌝ }
+{
+    check_whole(part_of(bytes, start, text.0 as usize))
 }

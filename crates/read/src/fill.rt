@@ -2,9 +2,8 @@
 // again; texts are not decoded, and only the NULs of pairs are looked for once more.
 ghost use mathlib.Core.Path.{_≡_};
 ghost use mathlib.Core.Bool.{true};
-ghost use Prim.Native.Nat.{_+_, _-_, _≤_, _<_};
-ghost use lib.ListN.{length, drop};
-ghost use Rattle.wire.specs.Nul.{untilNul};
+ghost use Prim.Native.Nat.{_+_, _-_, _≤_};
+ghost use lib.ListN.{length};
 ghost use Rattle.wire.specs.Number.{u32At};
 ghost use Rattle.layout.specs.Checked.{isGood};
 ghost use Rattle.format.specs.Encoding.{limit};
@@ -79,27 +78,15 @@ fn fill_entries(
     }
 }
 
-// How many bytes stand before the first NUL from a place on. An argument often has an empty text, and the
-// first byte tells so without a call.
-fn until_nul(payload: &[u8], at: usize) -> usize
-    requires { ⌜ at < length (now payload) ⌝ }
-    ensures { λ r. ⌜ r ≡ untilNul (drop at (now (payload .entry))) ⌝ }
-{
-    if payload[at] == 0 {
-        return 0;
-    }
-    wire::find_nul(&payload[at..])
-}
-
 // The row of the pair at a place.
 fn pair_row(payload: &[u8], at: usize) -> Row
     requires { ⌜ afterPair (pairAt (now payload) at) ≤ length (now payload) ⌝ }
     requires { ⌜ length (now payload) ≤ limit ⌝ }
     ensures { λ r. ⌜ r ≡ pairAt (now (payload .entry)) at ⌝ }
 {
-    let name = TextLength(until_nul(payload, at) as u32);
+    let name = TextLength(wire::find_nul_from(payload, at) as u32);
     let start = at + name.wire_size().0;
-    let value = TextLength(until_nul(payload, start) as u32);
+    let value = TextLength(wire::find_nul_from(payload, start) as u32);
     Row::pair(at as u32, name, start as u32, value)
 }
 

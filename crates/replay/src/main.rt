@@ -7,8 +7,8 @@
 // - `write LENT PAYLOAD EDIT ROWS`: how many bytes are lent, the payload, the edit text, and the numbers of
 //   the rows with commas between; `-` is none. Answered: how many bytes of the output were left as they were,
 //   and the stored bytes.
-// - `list LENT PAYLOAD`, `public_copy LENT PAYLOAD` and `card LENT PAYLOAD`: how many bytes are lent, and the
-//   payload. Answered as a call of writing is.
+// - `list LENT PAYLOAD`, `public_copy LENT PAYLOAD`, `card LENT PAYLOAD` and `to_sheet LENT PAYLOAD`: how many
+//   bytes are lent, and the payload. Answered as a call of writing is.
 // The table has 128 numbers and the output 512 bytes, of which a call is lent the first ones, so that a store
 // past those would show.
 //
@@ -32,6 +32,7 @@
 // - 42 calls with payloads that the model refuses to copy, three for each refusal from 2 to 15;
 // - 60 calls whose card the published Rust printed of the copy that it wrote (tests/oracle/rows.rs), with outputs
 //   as for those of listing.
+// Of making sheets: 119 calls worked out by an independent model of request (a) of document 02.
 ghost use Prim.Native.Nat.{_≤_};
 ghost use lib.ListN.{length};
 use layout::Answer;
@@ -253,6 +254,7 @@ enum Job {
     List,
     PublicCopy,
     Card,
+    ToSheet,
 }
 
 fn make(job: Job, payload: &[u8], output: &mut [u8]) -> Answer {
@@ -260,6 +262,7 @@ fn make(job: Job, payload: &[u8], output: &mut [u8]) -> Answer {
         Job::List => listing::list(payload, output),
         Job::PublicCopy => public_copy::public_copy(payload, output),
         Job::Card => card::card(payload, output),
+        Job::ToSheet => to_sheet::to_sheet(payload, output),
     }
 }
 
@@ -366,6 +369,9 @@ fn replay_line(line: &[u8]) {
     if check::same(word, b"card") {
         made_line(Job::Card, fields);
     }
+    if check::same(word, b"to_sheet") {
+        made_line(Job::ToSheet, fields);
+    }
 }
 
 fn replay_all(calls: &[u8]) {
@@ -383,7 +389,7 @@ fn main() {
         os::fail(b"calls.txt");
         return;
     }
-    let mut calls = [0u8; 262144];
+    let mut calls = [0u8; 524288];
     let count = io::read_full(fd, &mut calls);
     libc::close(fd);
     replay_all(&calls[..count]);

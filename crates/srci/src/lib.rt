@@ -10,6 +10,7 @@ ghost use Rattle.format.specs.Write.{writeAnswer, writeOutput};
 ghost use Rattle.format.specs.Listing.{listAnswer, listOutput};
 ghost use Rattle.format.specs.PublicCopy.{copyAnswer, copyOutput};
 ghost use Rattle.format.specs.Card.{cardAnswer, cardOutput};
+ghost use Rattle.sheet.specs.ToSheet.{toSheetAnswer, toSheetOutput};
 ghost use Rattle.srci.specs.Secrecy.{Called};
 use layout::Answer;
 
@@ -90,5 +91,17 @@ pub extern "C" fn srci_card(payload: &[u8], output: &mut [u8], second: &mut u32)
     ensures { λ r. ⌜ Called cardAnswer cardOutput (now (payload .entry)) (now (output .entry)) r (now (output .exit)) (now (second .exit)) ⌝ }
 {
     let answer = card::card(payload, output);
+    tell(answer, second)
+}
+
+// Writes the sheet of a payload to a lent output. Answers 0, or the refusal's number. Stores in `second` how many bytes
+// were stored, or the refusal's second number.
+#[no_mangle]
+pub extern "C" fn srci_to_sheet(payload: &[u8], output: &mut [u8], second: &mut u32) -> u32
+    ensures { λ r. ⌜ r ≡ answerNumber (toSheetAnswer (now (payload .entry)) (length (now (output .entry)))) ⌝ }
+    ensures { λ _. ⌜ now (output .exit) ≡ toSheetOutput (now (payload .entry)) (now (output .entry)) ⌝ }
+    ensures { λ _. ⌜ now (second .exit) ≡ answerSecond (toSheetAnswer (now (payload .entry)) (length (now (output .entry)))) ⌝ }
+{
+    let answer = to_sheet::to_sheet(payload, output);
     tell(answer, second)
 }

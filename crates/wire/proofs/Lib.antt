@@ -1,4 +1,5 @@
 pub mod LengthLaws
+pub mod FindLaws
 pub mod NulLaws
 pub mod NumberLaws
 pub mod PaddingLaws

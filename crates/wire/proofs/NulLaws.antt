@@ -7,11 +7,13 @@ use Prim.Native.Nat.{ℕ, zero, suc, _+_, _≤_, _<_}
 use native.Mathlib.Nat.{add-zero}
 use native.Mathlib.Numerals.{add-one}
 use native.Mathlib.Omega.{arith}
-use lib.Dec.{ltb, eqb·suc-zero}
+use lib.Dec.{eqb, ltb, eqb·suc-zero}
 use lib.ListN.{length, getD, take, drop, length-take, List·getD-eq-default}
 use lib.Seq.{drop-cons, drop-nil, getD-take}
 use borrow.Author.Tests.{ne-eqb, ltb-true, ltb-false}
+use Rattle.wire.specs.Find.{until, isAny}
 use Rattle.wire.specs.Nul.{untilNul}
+use Rattle.wire.proofs.FindLaws.{any-one}
 
 over : (b : ℕ) (s : List ℕ) → untilNul (suc b ∷ s) ≡ suc (untilNul s)
 unfolding untilNul
@@ -95,3 +97,12 @@ until-run s i (suc n) h a =
     ap (λ (m : ℕ). m + untilNul (drop m s)) (let e : i + suc n ≡ i + n + 1 = omega arith in e) ∙
     omega (arith, until-step s (i + n) (omega arith) (λ e. omega arith)) ∙
     until-run s i n (omega arith) (λ k l. a k (omega arith))
+
+-- ---- as a search finds it
+
+pub nul-found : (s : List ℕ) → until (isAny 0 0 0) s ≡ untilNul s
+unfolding until untilNul
+nul-found [] = refl
+nul-found (b ∷ s) =
+    ap (λ (here : Bool). elim here as (λ _. ℕ) [ true ↦ 0 | false ↦ suc (until (isAny 0 0 0) s) ]) (any-one 0 b) ∙
+    ap (λ (n : ℕ). elim (eqb b 0) as (λ _. ℕ) [ true ↦ 0 | false ↦ suc n ]) (nul-found s)

@@ -1,3 +1,4 @@
+pub mod Find
 pub mod Length
 pub mod Nul
 pub mod Number

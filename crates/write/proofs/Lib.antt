@@ -5,6 +5,5 @@ pub mod Moving
 pub mod RunLaws
 pub mod SectionLaws
 pub mod SectionParts
-pub mod SectionStored
 pub mod Stored
 pub mod Turns

@@ -10,7 +10,7 @@ use lib.ListN.{length, replicate, length-append}
 use lib.Seq.{sets}
 use Rattle.wire.specs.Length.{wireSize}
 use Rattle.wire.specs.Padding.{padding, aligned}
-use Rattle.wire.proofs.NumberLaws.{length-bytesOf, number-stored, fields-stored}
+use Rattle.wire.proofs.NumberLaws.{length-bytesOf, fields-stored}
 use Rattle.wire.proofs.Sets.{sets-joined}
 use Rattle.format.specs.Encoding.{u16, u32, terminate, pairEntry, encodeSection, encode}
 use Rattle.format.specs.Sections.{Section}
@@ -18,23 +18,8 @@ use Rattle.format.proofs.Encoding.{length-encode}
 use Rattle.format.proofs.MainHeader.{header-stored}
 use Rattle.format.proofs.EntryBytes.{unpadded, entryBytes}
 use Rattle.write.specs.Entry.{pair, entryStart}
-use Rattle.write.specs.Section.{contentsHeader}
 
--- ---- headers
-
-pub contents-stored :
-    (l : List ℕ) (at field compression bytes uncompressed count : ℕ) →
-    (let flags : List ℕ = sets (sets (sets l at (u32 field)) (at + 4) (u16 0)) (at + 6) (u16 compression) in
-    sets (sets (sets flags (at + 8) (u32 bytes)) (at + 12) (u32 uncompressed)) (at + 16) (u32 count)
-    ≡ sets l at (contentsHeader field compression bytes uncompressed count))
-contents-stored l at field compression bytes uncompressed count =
-    let flags : List ℕ = sets (sets l at (u32 field)) (at + 4) (u16 0) in
-    let sizes : List ℕ = u32 bytes ++ (u32 uncompressed ++ u32 count) in
-    let kind : List ℕ = sets flags (at + 6) (u16 compression) in
-    number-stored 4 uncompressed (u32 count) (sets kind (at + 8) (u32 bytes)) (at + 12) (at + 16) (omega arith) ∙
-    number-stored 4 bytes (u32 uncompressed ++ u32 count) kind (at + 8) (at + 12) (omega arith) ∙
-    number-stored 2 compression sizes flags (at + 6) (at + 8) (omega arith) ∙
-    fields-stored field 2 0 (u16 compression ++ sizes) l at (at + 4) (at + 6) refl (omega arith)
+-- ---- the main header
 
 -- the main header, stored after the sections, makes the payload
 pub payload-stored :

@@ -1,14 +1,12 @@
--- Sections as rows have them: the section that a row begins, with the rows of its entries, and what stands before and after its stored bytes.
+-- Sections as rows have them: the section that a row begins, with the rows of its entries.
 use Prim.Native.Nat.{ℕ, _+_}
-use mathlib.Core.List.{List, [], _++_}
-use lib.ListN.{length, getD, drop, replicate}
-use Rattle.wire.specs.Padding.{padding}
+use mathlib.Core.List.{List, []}
+use lib.ListN.{length, getD, drop}
 use Rattle.table.specs.Rows.{noRow}
 use Rattle.table.specs.Tags.{tagOf}
 use Rattle.table.specs.declared.row.Row.{Row}
 use Rattle.table.specs.declared.tag.Tag.{Tag}
 use Rattle.table.specs.declared.tag.Tag.the-variants as tag
-use Rattle.format.specs.Encoding.{u16, u32}
 use Rattle.format.specs.Resolve.{leading, begun}
 use Rattle.format.specs.Sections.{Section, unknown}
 
@@ -31,19 +29,6 @@ entriesOf tag.Content rows = 0
 entriesOf tag.Name rows = 0
 entriesOf tag.Pair rows = 0
 entriesOf tag.None rows = 0
-
--- a section header: a size, flags, a kind
-abbrev pub sectionHeader : ℕ → ℕ → List ℕ
-sectionHeader size kind = u32 size ++ (u16 0 ++ u16 kind)
-
--- the zeros that follow so many bytes
-abbrev pub zerosAfter : ℕ → List ℕ
-zerosAfter n = replicate (padding n) 0
-
--- the body header of contents
-abbrev pub contentsHeader : ℕ → ℕ → ℕ → ℕ → ℕ → List ℕ
-contentsHeader field compression bytes uncompressed count =
-    u32 field ++ (u16 0 ++ (u16 compression ++ (u32 bytes ++ (u32 uncompressed ++ u32 count))))
 
 -- the section that the row at an index begins, and the index after it and its entries
 abbrev pub sectionAt : List ℕ → List ℕ → List Row → ℕ → Section

@@ -17,7 +17,7 @@ ghost use lib.ListN.{length};
 ghost use Rattle.format.specs.Write.{writeAnswer, writeOutput};
 use layout::Answer;
 use layout::Refusal;
-use rows::Measured;
+use sizes::Measured;
 
 // Writes rows over a payload and an edit text to a lent output, whole, or refuses them and leaves the output
 // as it was.

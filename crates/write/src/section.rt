@@ -1,59 +1,20 @@
-// Sections, stored at a position, which is answered moved on past them. What a section stores goes first, since its headers count it.
+// Sections, stored at a position, which is answered moved on past them. What a section stores goes first, and then what stands around it (crate frames).
 ghost use mathlib.Core.Path.{_≡_};
-ghost use Prim.Native.Nat.{_+_, _-_, _≤_};
 ghost use lib.Seq.{sets};
-ghost use Rattle.wire.specs.Padding.{aligned};
-ghost use Rattle.layout.specs.Kinds.{kindNumber, compressionNumber};
 ghost use Rattle.table.specs.Rows.{rowsOf};
 ghost use Rattle.table.specs.declared.tag.Tag.the-variants as tag;
-ghost use Rattle.format.specs.Encoding.{limit};
 ghost use Rattle.write.specs.Position.{Writable, past, sectionBytes};
-ghost use Rattle.write.specs.Section.{sectionHeader, zerosAfter, contentsHeader};
 use crate::position::Position;
 use crate::run::write_run;
+use frames::close_arguments;
+use frames::close_contents;
+use frames::close_names;
+use frames::close_section;
 use layout::SourceCompression;
 use layout::SourceInfoSectionType;
 use layout::bytes_of;
 use table::Row;
 use table::Tag;
-
-// A section header at `start`, and zeros from `end` on up to a multiple of 4. Answers the place after them.
-fn write_frame(output: &mut [u8], start: usize, end: usize, kind: SourceInfoSectionType) -> usize
-    requires { ⌜ start ≤ end ⌝ }
-    requires { ⌜ start + aligned (end - start) ≤ limit ⌝ }
-    ensures { λ r. ⌜ r ≡ start + aligned (end - start) ⌝ }
-    ensures { λ _. ⌜ now (output .exit) ≡ sets (sets (now (output .entry)) start (sectionHeader (aligned (end - start)) (kindNumber kind))) end (zerosAfter (end - start)) ⌝ }
-{
-    let length = end - start;
-    let zeros = wire::padding_length(length);
-    let size = length + zeros;
-    wire::write_u32(output, start, size as u32);
-    wire::write_u16(output, start + 4, 0);
-    wire::write_u16(output, start + 6, kind.to_u16());
-    wire::write_zeros(output, end, zeros);
-    start + size
-}
-
-// The body header of contents.
-fn write_contents_header(
-    output: &mut [u8],
-    at: usize,
-    field: u32,
-    compression: SourceCompression,
-    bytes: u32,
-    uncompressed: u32,
-    count: u32,
-)
-    requires { ⌜ at + 20 ≤ limit ⌝ }
-    ensures { λ _. ⌜ now (output .exit) ≡ sets (now (output .entry)) at (contentsHeader field (compressionNumber compression) bytes uncompressed count) ⌝ }
-{
-    wire::write_u32(output, at, field);
-    wire::write_u16(output, at + 4, 0);
-    wire::write_u16(output, at + 6, compression.to_u16());
-    wire::write_u32(output, at + 8, bytes);
-    wire::write_u32(output, at + 12, uncompressed);
-    wire::write_u32(output, at + 16, count);
-}
 
 // Names, whose entries are the rows after their own.
 pub fn store_names<'a>(
@@ -73,10 +34,7 @@ pub fn store_names<'a>(
     let run = write_run(payload, edit, rows, Tag::Name, first, output, entries);
     let end = run.at;
     let index = run.index;
-    wire::write_u32(output, start + 8, 0);
-    wire::write_u32(output, start + 12, (index - first) as u32);
-    wire::write_u16(output, start + 16, (end - entries) as u16);
-    let at = write_frame(output, start, end, SourceInfoSectionType::SourceNames);
+    let at = close_names(output, start as u32, end as u32, (index - first) as u32);
     Position { index, at }
 }
 
@@ -98,10 +56,7 @@ pub fn store_arguments<'a>(
     let run = write_run(payload, edit, rows, Tag::Pair, first, output, pairs);
     let end = run.at;
     let index = run.index;
-    wire::write_u32(output, start + 8, 0);
-    wire::write_u32(output, start + 12, (end - pairs) as u32);
-    wire::write_u32(output, start + 16, (index - first) as u32);
-    let at = write_frame(output, start, end, SourceInfoSectionType::Arguments);
+    let at = close_arguments(output, start as u32, end as u32, (index - first) as u32);
     Position { index, at }
 }
 
@@ -124,17 +79,15 @@ pub fn store_plain<'a>(
     let run = write_run(payload, edit, rows, Tag::Content, first, output, entries);
     let end = run.at;
     let index = run.index;
-    let bytes = (end - entries) as u32;
-    write_contents_header(
+    let at = close_contents(
         output,
-        start + SourceInfoSectionType::SECTION_HEADER_SIZE,
+        start as u32,
+        end as u32,
         row.a,
         SourceCompression::None,
-        bytes,
-        bytes,
+        (end - entries) as u32,
         (index - first) as u32,
     );
-    let at = write_frame(output, start, end, SourceInfoSectionType::SourceContents);
     Position { index, at }
 }
 
@@ -156,20 +109,14 @@ pub fn store_packed<'a>(
     let stream = bytes_of(payload, edit, row.side, row.b, row.c);
     let stored = start + SourceInfoSectionType::CONTENTS_START;
     wire::write_bytes(output, stored, stream);
-    write_contents_header(
+    let at = close_contents(
         output,
-        start + SourceInfoSectionType::SECTION_HEADER_SIZE,
+        start as u32,
+        (stored + stream.len()) as u32,
         row.a,
         SourceCompression::Zlib,
-        stream.len() as u32,
         row.e,
         row.d,
-    );
-    let at = write_frame(
-        output,
-        start,
-        stored + stream.len(),
-        SourceInfoSectionType::SourceContents,
     );
     Position { index, at }
 }
@@ -192,10 +139,10 @@ pub fn store_unknown<'a>(
     let bytes = bytes_of(payload, edit, row.side, row.b, row.c);
     let stored = start + SourceInfoSectionType::SECTION_HEADER_SIZE;
     wire::write_bytes(output, stored, bytes);
-    let at = write_frame(
+    let at = close_section(
         output,
-        start,
-        stored + bytes.len(),
+        start as u32,
+        (stored + bytes.len()) as u32,
         SourceInfoSectionType::Unknown(row.a as u16),
     );
     Position { index, at }

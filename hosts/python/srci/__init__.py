@@ -8,6 +8,7 @@ r"""SRCI payloads of compiled shaders, which carry source files and compiler arg
     listing(payload)             for the owner of a payload: the card, with packed sizes and unknown sections
     read(payload)                all that is in a payload, as rows
     write(payload, edit, rows)   a payload made of rows
+    to_sheet(payload)            all that is in a payload, as lines for a text editor
 
     >>> import srci
     >>> payload = bytes.fromhex(
@@ -41,13 +42,13 @@ so that no other thread's Python code changes it; that keeps out neither what fi
 readinto and recv_into do, nor another process, nor anything in a Python without that lock. Lend bytes, or a buffer that
 is filled.
 
-The five jobs card, listing, public_copy, read and write are done by libsrci, whose every function is proved: whatever
-bytes and rows come, each call ends, stays inside its buffers, and answers what its definition gives. This package finds
-the sizes that a job needs, puts names to the numbers, and tells facts from the public copy. It is tested, and not
-itself proved.
+The six jobs card, listing, public_copy, read, write and to_sheet are done by libsrci, whose every function is proved:
+whatever bytes and rows come, each call ends, stays inside its buffers, and answers what its definition gives. This
+package finds the sizes that a job needs, puts names to the numbers, and tells facts from the public copy. It is tested,
+and not itself proved.
 """
 from . import _tables
-from ._jobs import card, listing, public_copy, read, write
+from ._jobs import card, listing, public_copy, read, to_sheet, write
 from ._refused import REFUSALS, Refused
 from ._rows import Row, Rows, Side
 from ._shown import Facts, Names, Pair, Section, facts, first_lines, names
@@ -73,6 +74,7 @@ __all__ = [
     "names",
     "public_copy",
     "read",
+    "to_sheet",
     "write",
 ]
 __version__ = _tables.VERSION

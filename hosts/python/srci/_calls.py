@@ -55,6 +55,7 @@ _srci_write = _Entry("srci_write", 4)  # payload, edit, rows, output
 _srci_list = _Entry("srci_list", 2)  # payload, output
 _srci_public_copy = _Entry("srci_public_copy", 2)  # payload, output
 _srci_card = _Entry("srci_card", 2)  # payload, output
+_srci_to_sheet = _Entry("srci_to_sheet", 2)  # payload, output
 
 
 class _Buffer(ctypes.Structure):
@@ -143,3 +144,8 @@ def public_copy(payload: Buffer, output: Buffer) -> tuple[int, int]:
 def card(payload: Buffer, output: Buffer) -> tuple[int, int]:
     """Stores the card of a payload."""
     return _call(_srci_card.reading(payload), _bytes(payload), _output(output))
+
+
+def to_sheet(payload: Buffer, output: Buffer) -> tuple[int, int]:
+    """Stores the sheet of a payload."""
+    return _call(_srci_to_sheet.reading(payload), _bytes(payload), _output(output))

@@ -1,4 +1,4 @@
-"""The five jobs of the library, each with an answer of the length that it needs."""
+"""The six jobs of the library, each with an answer of the length that it needs."""
 from array import array
 from collections.abc import Iterable, Sequence
 from typing import TYPE_CHECKING, Callable, TypeVar
@@ -75,6 +75,36 @@ def write(payload: "Buffer", edit: "Buffer", rows: Iterable[Sequence[int]]) -> b
     """
     numbers = (rows if isinstance(rows, Rows) else Rows(rows))._numbers
     return bytes(_output(lambda output: _calls.write(payload, edit, numbers, output)))
+
+
+def to_sheet(payload: "Buffer") -> bytes:
+    r"""Makes the sheet of a payload, for a text editor: lines of UTF-8 that show everything in the payload.
+
+    It shows packed and unknown bytes too: secrecy, which covers the public copy and the card, does not cover it. A line
+    has a word and fields, parted by tabs:
+
+    =========  ==============================================
+    word       fields
+    =========  ==============================================
+    contents   header field
+    content    text
+    packed     header field, count, uncompressed bytes, bytes
+    names      none
+    name       content size, text
+    arguments  none
+    pair       name, value
+    unknown    kind, bytes
+    =========  ==============================================
+
+    Numbers are decimal, bytes are pairs of hexadecimal digits, and in a text a backslash, a tab and a newline are
+    written as a backslash followed by a backslash, t or n. The sheet is at most three and a half times as long as the
+    payload. A file for it is opened with "wb": it is to stay as it is, byte for byte.
+
+    >>> payload = write(b"", b"sky.hlsl", [Row(Tag.NAMES), Row(Tag.NAME, Side.EDIT, a=0, b=8, c=1)])
+    >>> to_sheet(payload)
+    b'names\nname\t1\tsky.hlsl\n'
+    """
+    return bytes(_output(lambda output: _calls.to_sheet(payload, output)))
 
 
 def _table(rows: int) -> "array[int]":

@@ -16,7 +16,8 @@ class Refused(Exception):
     2 ragged
     refused 2, ragged: The payload has fewer than 8 bytes, or a length that is no multiple of 4.
 
-    `meaning` is that sentence. `second` is 0: a refusal that tells a length is answered by this package itself.
+    `meaning` is that sentence. `second` is the line's number from 1 where a line of a sheet is at fault, and else 0: a
+    refusal that tells a length is answered by this package itself.
     """
 
     def __init__(self, number: int, second: int = 0) -> None:

@@ -25,6 +25,7 @@ REFUSALS: Final = (
     ("bad row", "A row breaks a rule of rows, or the table has a part of a row.", ""),
     ("won't fit", "There would be over 65,535 sections, 65,535 bytes of names in one, or 26,214,400 bytes.", ""),
     ("no room", "The output is too short.", "bytes needed"),
+    ("bad line", "A line of a sheet is malformed or misplaced.", "line"),
 )
 
 

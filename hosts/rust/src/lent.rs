@@ -1,4 +1,4 @@
-//! The five jobs on lent buffers, with no allocation.
+//! The six jobs on lent buffers, with no allocation.
 //!
 //! Each answers how many rows or bytes it stored at the start of what it was lent; the rest keeps its values. A refused
 //! call changes nothing.
@@ -101,4 +101,13 @@ pub fn public_copy(payload: &[u8], output: &mut [u8]) -> Result<usize, Refusal> 
 /// Those of [`crate::card()`], then [`Refusal::NoRoom`] with what is needed.
 pub fn card(payload: &[u8], output: &mut [u8]) -> Result<usize, Refusal> {
     make(sys::srci_card, payload, output)
+}
+
+/// Makes the sheet of a payload. Answers how many bytes were stored.
+///
+/// # Errors
+///
+/// Those of [`crate::to_sheet()`], then [`Refusal::NoRoom`] with what is needed.
+pub fn to_sheet(payload: &[u8], output: &mut [u8]) -> Result<usize, Refusal> {
+    make(sys::srci_to_sheet, payload, output)
 }

@@ -1,8 +1,8 @@
 //! SRCI payloads of compiled shaders: what an attachment card tells of source files and compiler arguments.
 //!
-//! The five jobs [`read()`], [`write()`], [`list()`], [`public_copy()`] and [`card()`] are done by `libsrci.a`, whose
-//! every function is proved: whatever bytes and rows come, each call ends, stays inside its buffers, and answers what
-//! its definition gives.
+//! The six jobs [`read()`], [`write()`], [`list()`], [`public_copy()`], [`card()`] and [`to_sheet()`] are done by
+//! `libsrci.a`, whose every function is proved: whatever bytes and rows come, each call ends, stays inside its buffers,
+//! and answers what its definition gives.
 //! This package finds the sizes that a job needs, allocates once, and puts names to the numbers. It is tested, and not
 //! itself proved.
 //!
@@ -142,6 +142,28 @@ pub fn public_copy(payload: &[u8]) -> Result<Vec<u8>, Refusal> {
 /// A refusal from 1 to 15, where the payload is not accepted.
 pub fn card(payload: &[u8]) -> Result<String, Refusal> {
     made(|output| lent::card(payload, output)).map(text)
+}
+
+/// Makes the sheet of a payload, for a text editor: lines of UTF-8 that show everything in the payload, packed and
+/// unknown bytes too. Secrecy, which covers the public copy and the card, does not cover it.
+///
+/// A line has a word and fields, parted by tabs: `contents`, header field; `content`, text; `packed`, header field, count,
+/// uncompressed bytes, bytes; `names`; `name`, content size, text; `arguments`; `pair`, name, value; `unknown`, kind,
+/// bytes. Numbers are decimal, bytes are pairs of hexadecimal digits, and in a text backslash, tab and newline are
+/// `\\`, `\t` and `\n`. The sheet is at most three and a half times as long as the payload.
+///
+/// ```
+/// // the compiler argument `E`, `main`
+/// let payload = b"\x24\0\0\0\0\0\x01\0\x1c\0\0\0\0\0\x02\0\0\0\0\0\x07\0\0\0\x01\0\0\0E\0main\0\0";
+/// assert_eq!(srci::to_sheet(payload)?, b"arguments\npair\tE\tmain\n");
+/// # Ok::<(), srci::Refusal>(())
+/// ```
+///
+/// # Errors
+///
+/// A refusal from 1 to 15, where the payload is not accepted.
+pub fn to_sheet(payload: &[u8]) -> Result<Vec<u8>, Refusal> {
+    made(|output| lent::to_sheet(payload, output))
 }
 
 /// What a job stores in an output of the length that it needs.

@@ -47,6 +47,8 @@ pub enum Refusal {
     WontFit,
     /// The output is too short. It tells the bytes needed; only [`crate::lent`] answers it.
     NoRoom(u32),
+    /// A line of a sheet is malformed or misplaced. It tells the line.
+    BadLine(u32),
     // [tables: end]
 }
 
@@ -72,11 +74,12 @@ const ORDER: [Refusal; REFUSALS.len()] = [
     Refusal::BadRow,
     Refusal::WontFit,
     Refusal::NoRoom(0),
+    Refusal::BadLine(0),
     // [tables: end]
 ];
 
 impl Refusal {
-    /// Every refusal, by their numbers from 1; those that tell how much is needed tell 0.
+    /// Every refusal, by their numbers from 1; those that have a second number tell 0.
     pub fn all() -> impl Iterator<Item = Refusal> {
         ORDER.into_iter()
     }
@@ -97,10 +100,12 @@ impl Refusal {
         REFUSALS[self.number() as usize - 1].1
     }
 
-    /// The rows or bytes that are needed, where these were lacking, else 0.
+    /// The rows or bytes that are needed, where these were lacking; the line's number from 1, where a line of a sheet is
+    /// at fault; else 0.
     pub fn second(self) -> u32 {
         match self {
             Refusal::NoRows(needed) | Refusal::NoRoom(needed) => needed,
+            Refusal::BadLine(line) => line,
             _ => 0,
         }
     }
@@ -110,6 +115,7 @@ impl Refusal {
         match ORDER[number as usize - 1] {
             Refusal::NoRows(_) => Refusal::NoRows(second),
             Refusal::NoRoom(_) => Refusal::NoRoom(second),
+            Refusal::BadLine(_) => Refusal::BadLine(second),
             refusal => refusal,
         }
     }

@@ -53,4 +53,12 @@ extern "C" {
         output_length: usize,
         second: *mut u32,
     ) -> u32;
+
+    pub fn srci_to_sheet(
+        payload: *const u8,
+        payload_length: usize,
+        output: *mut u8,
+        output_length: usize,
+        second: *mut u32,
+    ) -> u32;
 }

@@ -5,7 +5,7 @@ pub const VERSION: &str = "0.2.0";
 
 /// The name of each refusal, what it means and what its second number is, by the numbers from 1.
 #[rustfmt::skip]
-pub(crate) const REFUSALS: [(&str, &str, &str); 19] = [
+pub(crate) const REFUSALS: [(&str, &str, &str); 20] = [
     ("oversize", "The payload has more than 26,214,400 bytes.", ""),
     ("ragged", "The payload has fewer than 8 bytes, or a length that is no multiple of 4.", ""),
     ("main header", "The main header tells another length than the payload's, or its flags are set.", ""),
@@ -25,6 +25,7 @@ pub(crate) const REFUSALS: [(&str, &str, &str); 19] = [
     ("bad row", "A row breaks a rule of rows, or the table has a part of a row.", ""),
     ("won't fit", "There would be over 65,535 sections, 65,535 bytes of names in one, or 26,214,400 bytes.", ""),
     ("no room", "The output is too short.", "bytes needed"),
+    ("bad line", "A line of a sheet is malformed or misplaced.", "line"),
 ];
 
 /// What a row is called, by its tag, and what its numbers A to E are; those that have no name are 0.

@@ -73,6 +73,15 @@ same-requires-5 c κs = search needs
 made-line-requires-3 : tie.Need-made-line-requires-3
 made-line-requires-3 c κs = search needs
 
+slice-aggregate-same-6 : tie.Need-slice-aggregate-same-6
+slice-aggregate-same-6 c = search needs
+
+same-requires-6 : tie.Need-same-requires-6
+same-requires-6 c κs = search needs
+
+made-line-requires-4 : tie.Need-made-line-requires-4
+made-line-requires-4 c κs = search needs
+
 returns-2 : tie.Need-returns-2
 returns-2 c = search needs
 
@@ -105,5 +114,8 @@ replay-line-spec =
     slice-aggregate-same-5
     same-requires-5
     made-line-requires-3
+    slice-aggregate-same-6
+    same-requires-6
+    made-line-requires-4
     returns-2
     returns-3)

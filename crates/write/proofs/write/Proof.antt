@@ -14,7 +14,7 @@ use Rattle.layout.proofs.Checked.{check-good}
 use Rattle.format.specs.Write.{written, writtenTable, writeAnswer, writeOutput}
 use Rattle.format.proofs.Output.{refused, told-no-room, told-room}
 use Rattle.format.proofs.RoundTrips.{written-good}
-use Rattle.rows.proofs.Sized.{sized-bytes, sized-refused}
+use Rattle.sizes.proofs.Sized.{sized-bytes, sized-refused}
 use Rattle.write.proofs.write.Statement.{statement}
 use Rattle.write.proofs.write.Tie as tie
 

@@ -31,12 +31,6 @@ slice-aggregate-write-bytes c = search needs
 write-bytes-requires : tie.Need-write-bytes-requires
 write-bytes-requires c κs = search needs
 
-add-result : tie.Need-add-result
-add-result c =
-    let d = c .before .before .before .before .before in
-    let a = d .before .before .before .args in
-    omega (arith, size d, decimal-short 9 (a .n) (omega arith))
-
 same-length : tie.Need-same-length
 same-length c = search needs
 
@@ -46,7 +40,7 @@ returns c =
     let a = d .before .before .before .args in
     let (counts, (fewest, spelt)) = d .decimal .ensures in
     let text = spelt ∙ digits-decimal _ _ fewest in
-    (ap (λ (k : ℕ). a .at + k) (size d), c .before .before .write-bytes .ensures ∙ ap (λ (l : List ℕ). sets (a .output .now) (a .at) l) text)
+    (size d, (omega (arith, size d, decimal-short 9 (a .n) (omega arith)), c .before .before .write-bytes .ensures ∙ ap (λ (l : List ℕ). sets (a .output .now) (a .at) l) text))
 
 pub write-decimal-spec : {M : Type 1} → statement M
 write-decimal-spec =
@@ -56,6 +50,5 @@ write-decimal-spec =
     array-share-prefix-digits
     slice-aggregate-write-bytes
     write-bytes-requires
-    add-result
     same-length
     returns)

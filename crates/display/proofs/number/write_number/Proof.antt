@@ -1,5 +1,7 @@
 -- `display::number::write_number` meets its contract: the digits and the text are one run.
 -- Assumes nothing.
+use Prim.Native.Nat.{ℕ, _+_}
+use mathlib.Core.Path.{ap}
 use native.Mathlib.Omega.{arith}
 use borrow.Author.Needs.{needs}
 use lib.ListN.{length-append}
@@ -11,6 +13,9 @@ use Rattle.display.proofs.number.write_number.Tie as tie
 
 write-decimal-requires : tie.Need-write-decimal-requires
 write-decimal-requires c κs = search needs
+
+add-next : tie.Need-add-next
+add-next c = search needs
 
 write-bytes-requires : tie.Need-write-bytes-requires
 write-bytes-requires c κs = search needs
@@ -32,10 +37,10 @@ returns c =
       omega (arith, sum),
       (
         omega (arith, decimal-short 9 (a .n) (omega arith)),
-        rw (text .write-bytes .ensures, number .write-decimal .ensures .1)
-            (sets-joined (decimal (a .n)) (a .text .now) (a .output .now) (a .at) _ (number .write-decimal .ensures .0)),
+        rw (text .write-bytes .ensures, number .write-decimal .ensures .1 .1)
+            (sets-joined (decimal (a .n)) (a .text .now) (a .output .now) (a .at) _ (ap (λ (k : ℕ). a .at + k) (number .write-decimal .ensures .0))),
       ),
     )
 
 pub write-number-spec : {M : Type 1} → statement M
-write-number-spec = tie.close (tie.spec write-decimal-requires write-bytes-requires add-result same-length returns)
+write-number-spec = tie.close (tie.spec write-decimal-requires add-next write-bytes-requires add-result same-length returns)

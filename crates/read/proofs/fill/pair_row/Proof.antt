@@ -10,7 +10,7 @@ use Rattle.read.proofs.fill.pair_row.Tie as tie
 cast-pair-2 : tie.Need-cast-pair-2
 cast-pair-2 c =
     let a = c .before .before .before .before .before .args in
-    let value : c .until-nul2 .result ≡ valueSpan (pairAt (a .payload .now) (a .at)) .count = cc in
+    let value : c .find-nul-from2 .result ≡ valueSpan (pairAt (a .payload .now) (a .at)) .count = cc in
     omega arith
 
 returns : tie.Need-returns

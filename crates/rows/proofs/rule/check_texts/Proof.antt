@@ -4,10 +4,9 @@ use mathlib.Core.Path.{ap, sym, _∙_}
 use borrow.Author.Needs.{needs}
 use Rattle.layout.specs.TextCheck.{verdict}
 use Rattle.layout.proofs.Checked.{after-fault, after-good}
-use Rattle.layout.proofs.TextCheck.{passed, not-passed}
+use Rattle.layout.proofs.TextCheck.{passed, not-passed, last-text}
 use Rattle.table.specs.Rows.{spansBy}
 use Rattle.format.specs.Rules.{checkTexts}
-use Rattle.rows.proofs.Texts.{last-text}
 use Rattle.rows.proofs.rule.check_texts.Statement.{statement}
 use Rattle.rows.proofs.rule.check_texts.Tie as tie
 

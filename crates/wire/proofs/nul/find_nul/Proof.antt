@@ -1,18 +1,16 @@
--- `wire::nul::find_nul` meets its contract: the blocks keep the place of the first NUL, and the last step finds it.
+-- `wire::nul::find_nul` meets its contract: a byte that is 0, or 0, or 0, is a NUL.
 -- Assumes nothing.
 use mathlib.Core.Path.{_∙_}
 use borrow.Author.Needs.{needs}
+use Rattle.wire.proofs.NulLaws.{nul-found}
 use Rattle.wire.proofs.nul.find_nul.Statement.{statement}
 use Rattle.wire.proofs.nul.find_nul.Tie as tie
 
-blocks-end-requires : tie.Need-blocks-end-requires
-blocks-end-requires c κs = search needs
-
-passed-requires : tie.Need-passed-requires
-passed-requires c κs = search needs
+find-any-requires : tie.Need-find-any-requires
+find-any-requires c κs = search needs
 
 returns : tie.Need-returns
-returns c = c .passed .ensures ∙ c .before .blocks-end .ensures .1
+returns c = c .find-any .ensures ∙ nul-found _
 
 pub find-nul-spec : {M : Type 1} → statement M
-find-nul-spec = tie.close (tie.spec blocks-end-requires passed-requires returns)
+find-nul-spec = tie.close (tie.spec find-any-requires returns)

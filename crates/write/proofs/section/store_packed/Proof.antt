@@ -1,20 +1,17 @@
--- `write::section::store_packed` meets its contract: the stream, the body header and the frame are the parts of packed contents.
+-- `write::section::store_packed` meets its contract: the stream and what closes it are the parts of packed contents.
 -- Assumes nothing.
-use Prim.Native.Nat.{ℕ, _+_, _-_, _≤_}
+use Prim.Native.Nat.{ℕ, _+_, _≤_}
 use mathlib.Core.List.{List}
-use mathlib.Core.Path.{_≡_, sym, ap}
+use mathlib.Core.Path.{_≡_, refl, sym, ap}
 use native.Mathlib.Nat.{add-zero}
 use native.Mathlib.Omega.{arith}
 use borrow.Author.Needs.{needs}
 use lib.ListN.{length}
-use lib.Seq.{sets}
-use Rattle.wire.specs.Padding.{aligned}
 use Rattle.table.specs.Rows.{rowsOf}
 use Rattle.table.specs.declared.row.Row.{Row}
 use Rattle.table.proofs.Rows.{length-rowsOf}
 use Rattle.format.specs.Encoding.{limit}
 use Rattle.write.specs.declared.position.Position.{Position}
-use Rattle.write.specs.Section.{contentsHeader}
 use Rattle.write.proofs.SectionParts.{own, Packed, packed-parts, within, told}
 use Rattle.write.proofs.section.store_packed.Statement.{statement}
 use Rattle.write.proofs.section.store_packed.Tie as tie
@@ -45,11 +42,8 @@ module _ (c : tie.After-bytes-of) where
   abbrev end : ℕ
   end = p .at + 28 + length (c .bytes-of .result .now)
 
-  ends : end ≡ p .at + 28 + length (own payload edit rows (p .index))
-  ends = ap (λ (l : List ℕ). p .at + 28 + length l) bytes
-
-  small : (end ≤ limit) × (p .at + aligned (end - p .at) ≤ limit)
-  small = within parts (p .at) ends (s .pre .4)
+  small : end ≤ limit
+  small = within parts (p .at) (ap (λ (l : List ℕ). p .at + 28 + length l) bytes) (s .pre .4)
 
 load-requires : tie.Need-load-requires
 load-requires c κs = search needs
@@ -66,37 +60,29 @@ add-stored c = search needs
 write-bytes-requires : tie.Need-write-bytes-requires
 write-bytes-requires c κs = search needs
 
-add-write-contents-header : tie.Need-add-write-contents-header
-add-write-contents-header c = search needs
+cast-close-contents : tie.Need-cast-close-contents
+cast-close-contents c = search needs
 
-cast-write-contents-header : tie.Need-cast-write-contents-header
-cast-write-contents-header c = omega (arith, small (c .before .before .before .before .before) .0)
+add-close-contents : tie.Need-add-close-contents
+add-close-contents c = search needs
 
-write-contents-header-requires : tie.Need-write-contents-header-requires
-write-contents-header-requires c κs = omega (arith, small (c .before .before .before .before .before) .0)
+cast-close-contents-2 : tie.Need-cast-close-contents-2
+cast-close-contents-2 c = omega (arith, small (c .before .before .before .before .before))
 
-add-write-frame : tie.Need-add-write-frame
-add-write-frame c = search needs
-
-write-frame-requires : tie.Need-write-frame-requires
-write-frame-requires c κs = (omega arith, small (c .before .before .before .before .before .before .before .before .before) .1)
+close-contents-requires : tie.Need-close-contents-requires
+close-contents-requires c κs = search needs
 
 same-length : tie.Need-same-length
 same-length c = search needs
 
 returns : tie.Need-returns
 returns c =
-    let frame = c .before .before in
-    let header = frame .before .before .before .before in
-    let stored = header .before .before .before .before in
+    let closed = c .before .before in
+    let stored = closed .before .before .before .before in
     let b = stored .before .before in
-    let row = b .before .before .load .result in
-    let fields : header .write-contents-header .last .0 ≡ sets (stored .write-bytes .last .0) (p b .at + 8) (contentsHeader (row .a) 1 (length (b .bytes-of .result .now)) (row .e) (row .d)) =
-    header .write-contents-header .ensures in
-    told (payload b) (edit b) (rows b) (p b) (s b .pre .1) (parts b) (ends b) (s b .args .output .now) (header .write-contents-header .last .0)
+    told (payload b) (edit b) (rows b) (p b) (s b .pre .1) (parts b) refl (s b .args .output .now)
     (sym (add-zero _))
-    (cc (fields, stored .write-bytes .ensures, bytes b, b .before .before .load .ensures))
-    (frame .write-frame .ensures)
+    (rw (b .before .before .load .ensures, stored .write-bytes .ensures, bytes b) at (closed .close-contents .ensures))
 
 pub store-packed-spec : {M : Type 1} → statement M
 store-packed-spec =
@@ -107,10 +93,9 @@ store-packed-spec =
     bytes-of-requires
     add-stored
     write-bytes-requires
-    add-write-contents-header
-    cast-write-contents-header
-    write-contents-header-requires
-    add-write-frame
-    write-frame-requires
+    cast-close-contents
+    add-close-contents
+    cast-close-contents-2
+    close-contents-requires
     same-length
     returns)

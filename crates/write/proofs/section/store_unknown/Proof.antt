@@ -1,13 +1,12 @@
--- `write::section::store_unknown` meets its contract: the row's bytes and the frame are the parts of an unknown section.
+-- `write::section::store_unknown` meets its contract: the row's bytes and what closes them are the parts of an unknown section.
 -- Assumes nothing.
-use Prim.Native.Nat.{ℕ, _+_, _-_, _≤_}
+use Prim.Native.Nat.{ℕ, _+_, _≤_}
 use mathlib.Core.List.{List}
-use mathlib.Core.Path.{_≡_, sym, ap}
+use mathlib.Core.Path.{_≡_, refl, sym, ap}
 use native.Mathlib.Nat.{add-zero}
 use native.Mathlib.Omega.{arith}
 use borrow.Author.Needs.{needs}
 use lib.ListN.{length}
-use Rattle.wire.specs.Padding.{aligned}
 use Rattle.layout.specs.Kinds.{kindNumber}
 use Rattle.table.specs.Rows.{rowsOf}
 use Rattle.table.specs.declared.row.Row.{Row}
@@ -44,11 +43,8 @@ module _ (c : tie.After-bytes-of) where
   abbrev end : ℕ
   end = p .at + 8 + length (c .bytes-of .result .now)
 
-  ends : end ≡ p .at + 8 + length (own payload edit rows (p .index))
-  ends = ap (λ (l : List ℕ). p .at + 8 + length l) bytes
-
-  small : (end ≤ limit) × (p .at + aligned (end - p .at) ≤ limit)
-  small = within parts (p .at) ends (s .pre .4)
+  small : end ≤ limit
+  small = within parts (p .at) (ap (λ (l : List ℕ). p .at + 8 + length l) bytes) (s .pre .4)
 
 load-requires : tie.Need-load-requires
 load-requires c κs = search needs
@@ -65,29 +61,34 @@ add-stored c = search needs
 write-bytes-requires : tie.Need-write-bytes-requires
 write-bytes-requires c κs = search needs
 
-add-write-frame : tie.Need-add-write-frame
-add-write-frame c = search needs
+cast-close-section : tie.Need-cast-close-section
+cast-close-section c = search needs
 
-cast-t19 : tie.Need-cast-t19
-cast-t19 c =
+add-close-section : tie.Need-add-close-section
+add-close-section c = search needs
+
+cast-close-section-2 : tie.Need-cast-close-section-2
+cast-close-section-2 c = omega (arith, small (c .before .before .before .before .before))
+
+cast-t21 : tie.Need-cast-t21
+cast-t21 c =
     let b = c .before .before .before .before .before .before in
     omega (arith, s b .pre .2, ap kindNumber (parts b .kinded), ap (λ (r : Row). r .a) (b .before .before .load .ensures))
 
-write-frame-requires : tie.Need-write-frame-requires
-write-frame-requires c κs = (omega arith, small (c .before .before .before .before .before .before) .1)
+close-section-requires : tie.Need-close-section-requires
+close-section-requires c κs = search needs
 
 same-length : tie.Need-same-length
 same-length c = search needs
 
 returns : tie.Need-returns
 returns c =
-    let frame = c .before .before in
-    let stored = frame .before .before .before .before .before in
+    let closed = c .before .before in
+    let stored = closed .before .before .before .before .before in
     let b = stored .before .before in
-    told (payload b) (edit b) (rows b) (p b) (s b .pre .1) (parts b) (ends b) (s b .args .output .now) (stored .write-bytes .last .0)
+    told (payload b) (edit b) (rows b) (p b) (s b .pre .1) (parts b) refl (s b .args .output .now)
     (sym (add-zero _))
-    (cc (stored .write-bytes .ensures, bytes b))
-    (rw (b .before .before .load .ensures) at (frame .write-frame .ensures))
+    (rw (b .before .before .load .ensures, stored .write-bytes .ensures, bytes b) at (closed .close-section .ensures))
 
 pub store-unknown-spec : {M : Type 1} → statement M
 store-unknown-spec =
@@ -98,8 +99,10 @@ store-unknown-spec =
     bytes-of-requires
     add-stored
     write-bytes-requires
-    add-write-frame
-    cast-t19
-    write-frame-requires
+    cast-close-section
+    add-close-section
+    cast-close-section-2
+    cast-t21
+    close-section-requires
     same-length
     returns)

@@ -6,7 +6,7 @@ use Prim.Native.Nat.{ℕ}
 use denote.Enum.Declared.{tagOf}
 use types.Run.{OneOf, miss}
 use Rattle.layout.specs.declared.refusal.Refusal.{Refusal}
-use Rattle.layout.specs.declared.refusal.Refusal.the-variants.{Oversize, Ragged, MainHeader, Frame, Flag, Short, BodySize, Padding, EntrySize, OpenText, NotUtf8, InnerNul, Leftover, Compression, Unequal, NoRows, BadRow, WontFit, NoRoom}
+use Rattle.layout.specs.declared.refusal.Refusal.the-variants.{Oversize, Ragged, MainHeader, Frame, Flag, Short, BodySize, Padding, EntrySize, OpenText, NotUtf8, InnerNul, Leftover, Compression, Unequal, NoRows, BadRow, WontFit, NoRoom, BadLine}
 use Rattle.layout.specs.Refusals.{refusalSecond}
 use Rattle.layout.proofs.refusal.Refusal as type
 use Rattle.layout.proofs.refusal.Refusal.second.Statement.{statement}
@@ -36,14 +36,17 @@ none (NoRows n) h = absurd (miss bare 15 tt h)
 none BadRow h = refl
 none WontFit h = refl
 none (NoRoom n) h = absurd (miss bare 18 tt h)
+none (BadLine n) h = absurd (miss bare 19 tt h)
 
--- First the two refusals that hold a number by their places, then each arm's number.
+-- First the three refusals that hold a number by their places, then each arm's number.
 pub second-spec : {M : Type 1} → statement M
 second-spec =
     tie.close
     (tie.spec
     (λ c. c .match .keys1)
     (λ c. c .match .keys2)
+    (λ c. c .match .keys3)
     (λ c. sym (ap refusalSecond (c .before .self .given .1)))
     (λ c. sym (ap refusalSecond (c .before .self2 .given .1)))
-    (λ c. none (c .before .args .self) (c .match .keys3)))
+    (λ c. sym (ap refusalSecond (c .before .self3 .given .1)))
+    (λ c. none (c .before .args .self) (c .match .keys4)))

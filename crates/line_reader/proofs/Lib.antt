@@ -1,0 +1,5 @@
+pub mod Slices
+pub mod FieldLaws
+pub mod NumberLaws
+pub mod SizeLaws
+pub mod LineLaws

@@ -1,0 +1,4 @@
+pub mod Capped
+pub mod SectionSizes
+pub mod Measured
+pub mod Sized

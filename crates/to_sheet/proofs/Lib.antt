@@ -1,0 +1,2 @@
+pub mod LineParts
+pub mod LineWalk

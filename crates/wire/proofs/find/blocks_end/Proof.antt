@@ -1,0 +1,59 @@
+-- `wire::find::blocks_end` meets its contract. The loop's invariant: no block that was passed has one.
+-- Assumes nothing.
+use Prim.Native.Nat.{_+_, _≤_, _-_}
+use mathlib.Core.Path.{_≡_, _∙_}
+use native.Mathlib.Omega.{arith}
+use lib.ListN.{length, drop}
+use Rattle.wire.specs.Find.{until, isAny}
+use Rattle.wire.proofs.FindLaws.{until-run}
+use Rattle.wire.proofs.find.blocks_end.Statement.{statement}
+use Rattle.wire.proofs.find.blocks_end.Tie as tie
+
+abbrev Inv-loop : tie.InvT-loop
+Inv-loop bytes one two three i₀ i = (i ≤ length bytes) × (i + until (isAny one two three) (drop i bytes) ≡ until (isAny one two three) bytes)
+
+abbrev μ-loop : tie.MeasureT-loop
+μ-loop bytes one two three i₀ i = length bytes - i
+
+loop-holds : tie.Need-loop-holds Inv-loop μ-loop
+loop-holds c = (omega arith, omega arith)
+
+sub-loop : tie.Need-sub-loop Inv-loop μ-loop
+sub-loop c = omega arith
+
+has-any-requires : tie.Need-has-any-requires Inv-loop μ-loop
+has-any-requires c κs = omega arith
+
+returns : tie.Need-returns Inv-loop μ-loop
+returns c = (omega arith, c .before .before .before .loop .inv .1)
+
+add-i : tie.Need-add-i Inv-loop μ-loop
+add-i c = omega arith
+
+loop-less : tie.Need-loop-less Inv-loop μ-loop
+loop-less c = omega arith
+
+loop-again : tie.Need-loop-again Inv-loop μ-loop
+loop-again c = (
+  omega arith,
+  until-run _ _ _ 16 (omega arith) (c .before .has-any .ensures (c .if1 .left)) ∙
+      c .before .before .before .loop .inv .1,
+)
+
+returns-2 : tie.Need-returns-2 Inv-loop μ-loop
+returns-2 c = (omega arith, c .before .loop .inv .1)
+
+pub blocks-end-spec : {M : Type 1} → statement M
+blocks-end-spec =
+    tie.close
+    (tie.spec
+    Inv-loop
+    μ-loop
+    loop-holds
+    sub-loop
+    has-any-requires
+    returns
+    add-i
+    loop-less
+    loop-again
+    returns-2)
