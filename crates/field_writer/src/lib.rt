@@ -1,8 +1,8 @@
 // The fields of a sheet's line, stored at a place of a lent output: a tab, and then a number in decimal, bytes in hex
 // pairs, or a text with its escapes. Each function answers the place after its field.
 //
-// Proved: every function is total, has no `requires`, and stores and answers just what crate sheet defines
-// (specs/Fields.antt). What would be stored past the end is dropped. Nothing is assumed.
+// Proved: every function is total, and stores and answers just what crate sheet defines (specs/Fields.antt); those that
+// another crate can call have no `requires`. What would be stored past the end is dropped. Nothing is assumed.
 mod hex;
 mod text;
 

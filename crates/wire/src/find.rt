@@ -1,8 +1,8 @@
 // Where a byte is found that is one of three; a search for one or two names one of them more than once.
 //
 // Bytes that are none of them are passed over in blocks, and what is left of them one by one. The loop over a
-// block does not branch on the bytes, so that it is compiled to a test of all of them at once, which
-// costs no more than that of one byte.
+// block looks for one byte and does not branch on what it meets, so that it is compiled to a test of all of the block at
+// once, which costs no more than that of one byte. A loop that looked for three would not be.
 ghost use mathlib.Core.Path.{_≡_};
 ghost use mathlib.Core.Bool.{false};
 ghost use Prim.Native.Nat.{ℕ, _+_, _≤_, _<_};
@@ -49,14 +49,33 @@ fn blocks_end(bytes: &[u8], one: u8, two: u8, three: u8) -> usize
     i
 }
 
-// Whether the block at place at has one.
+// Whether the block at place at has one. A byte that is named twice is looked for once.
 fn has_any(bytes: &[u8], one: u8, two: u8, three: u8, at: usize) -> bool
     requires { ⌜ at + 16 ≤ length (now bytes) ⌝ }
     ensures { λ r. ⌜ (r ≡ false → (k : ℕ) → k < 16 → isAny one two three (getD (now (bytes .entry)) (at + k) 0) ≡ false) ⌝ }
 {
+    if has_byte(bytes, one, at) {
+        return true;
+    }
+    if two != one {
+        if has_byte(bytes, two, at) {
+            return true;
+        }
+    }
+    if three != two {
+        return has_byte(bytes, three, at);
+    }
+    false
+}
+
+// Whether the block at place at has a byte.
+fn has_byte(bytes: &[u8], byte: u8, at: usize) -> bool
+    requires { ⌜ at + 16 ≤ length (now bytes) ⌝ }
+    ensures { λ r. ⌜ (r ≡ false → (k : ℕ) → k < 16 → getD (now (bytes .entry)) (at + k) 0 ≡ byte → ⊥) ⌝ }
+{
     let mut found = false;
     for k in 0..BLOCK {
-        if is_any(bytes[at + k], one, two, three) {
+        if bytes[at + k] == byte {
             found = true;
         }
     }

@@ -1,66 +1,56 @@
--- `wire::find::has_any` meets its contract. The loop's invariant: where none was found, no byte that was passed is one of the three.
+-- `wire::find::has_any` meets its contract: where no byte was found, each was looked for, or is another that was.
 -- Assumes nothing.
-use Prim.Native.Nat.{ℕ, _+_, _≤_, _<_, _-_}
-use mathlib.Core.Path.{_≡_, sym, _∙_}
-use mathlib.Core.Bool.{false, true≢false}
+use Prim.Native.Nat.{ℕ, _+_, _<_}
+use mathlib.Core.Path.{_≡_}
+use mathlib.Core.Bool.{true, false, true≢false}
 use mathlib.Core.Logic.{⊎-elim}
 use native.Mathlib.Omega.{arith}
 use borrow.Author.Needs.{needs}
+use borrow.Author.Tests.{ne-eqb}
 use lib.ListN.{getD}
-use borrow.Author.Count.{below-more}
 use Rattle.wire.specs.Find.{isAny}
 use Rattle.wire.proofs.find.has_any.Statement.{statement}
 use Rattle.wire.proofs.find.has_any.Tie as tie
 
-abbrev Inv-loop : tie.InvT-loop
-Inv-loop bytes one two three at found₀ k₀ found k =
-    (k ≤ 16) × (found ≡ false → (j : ℕ) → j < k → isAny one two three (getD bytes (at + j) 0) ≡ false)
+-- a byte that is none of three
+none : (b one two three : ℕ) → (b ≡ one → ⊥) → (b ≡ two → ⊥) → (b ≡ three → ⊥) → isAny one two three b ≡ false
+none b one two three p q r = rw (ne-eqb b one p, ne-eqb b two q, ne-eqb b three r)
 
-abbrev μ-loop : tie.MeasureT-loop
-μ-loop bytes one two three at found₀ k₀ found k = 16 - k
+returns : tie.Need-returns
+returns c e k h = absurd (true≢false e)
 
-loop-holds : tie.Need-loop-holds Inv-loop μ-loop
-loop-holds c = (omega arith, λ e j h. absurd (omega arith))
+returns-2 : tie.Need-returns-2
+returns-2 c e k h = absurd (true≢false e)
 
-add-is-any : tie.Need-add-is-any Inv-loop μ-loop
-add-is-any c = omega arith
+-- the block has neither of the first two
+first-two :
+    (c : tie.Joined2) (k : ℕ) →
+    k < 16 →
+    (let a = c .before .before .before .before .args in
+    let b = getD (a .bytes .now) (a .at + k) 0 in
+    (b ≡ a .one → ⊥) × (b ≡ a .two → ⊥))
+first-two c k h =
+    let first = c .before .before .has-byte .ensures (c .before .if1 .left) k h in
+    (first, ⊎-elim (λ w. w .1 .ensures (w .2 .left) k h) (λ w q. first (omega arith)) (c .if2 .came))
 
-shared-slice-read-is-any : tie.Need-shared-slice-read-is-any Inv-loop μ-loop
-shared-slice-read-is-any c = omega arith
+returns-3 : tie.Need-returns-3
+returns-3 c e k h =
+    let (p, q) = first-two (c .before .before) k h in
+    none _ _ _ _ p q (c .has-byte3 .ensures e k h)
 
-is-any-requires : tie.Need-is-any-requires Inv-loop μ-loop
-is-any-requires c κs = search needs
-
-add-k : tie.Need-add-k Inv-loop μ-loop
-add-k c = omega arith
-
-loop-less : tie.Need-loop-less Inv-loop μ-loop
-loop-less c = omega arith
-
-loop-again : tie.Need-loop-again Inv-loop μ-loop
-loop-again c = (
-  omega arith,
-  λ e.
-      ⊎-elim
-      (λ w. absurd (true≢false (sym (w .1) ∙ e)))
-      (λ w. below-more _ _ (c .before .before .before .before .loop .inv .1 (sym (w .1) ∙ e)) (let own = w .0 in cc))
-      (c .if1 .came),
-)
-
-returns : tie.Need-returns Inv-loop μ-loop
-returns c e k h = c .before .loop .inv .1 e k (omega arith)
+returns-4 : tie.Need-returns-4
+returns-4 c e k h =
+    let (p, q) = first-two (c .before) k h in
+    none _ _ _ _ p q (λ r. q (omega arith))
 
 pub has-any-spec : {M : Type 1} → statement M
 has-any-spec =
     tie.close
     (tie.spec
-    Inv-loop
-    μ-loop
-    loop-holds
-    add-is-any
-    shared-slice-read-is-any
-    is-any-requires
-    add-k
-    loop-less
-    loop-again
-    returns)
+    (λ c κs. search needs)
+    returns
+    (λ c κs. search needs)
+    returns-2
+    (λ c κs. search needs)
+    returns-3
+    returns-4)

@@ -1,0 +1,2 @@
+pub mod Measured
+pub mod Turns
