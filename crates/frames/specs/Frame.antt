@@ -1,5 +1,5 @@
 -- A section's headers and padding, around the bytes that it stores.
-use Prim.Native.Nat.{ℕ, _-_}
+use Prim.Native.Nat.{ℕ, _+_, _-_}
 use mathlib.Core.List.{List, _++_}
 use lib.ListN.{replicate}
 use lib.Seq.{sets}
@@ -28,3 +28,10 @@ unfoldable pub framed : List ℕ → ℕ → ℕ → SourceInfoSectionType → L
 framed output start end kind body =
     let size : ℕ = end - start in
     sets (sets output start (sectionHeader (aligned size) (kindNumber kind) ++ body)) end (replicate (padding size) 0)
+
+-- an output with the first 12 bytes of an entry at a start, whose header has so many bytes: aligned size, flags, text size; and zeros from the end of
+-- its text on, its NUL and its padding
+unfoldable pub entryFramed : List ℕ → ℕ → ℕ → ℕ → List ℕ
+entryFramed output start header end =
+    let size : ℕ = end - start + 1 in
+    sets (sets output start (u32 (aligned size) ++ (u32 0 ++ u32 (end - (start + header) + 1)))) end (replicate (1 + padding size) 0)

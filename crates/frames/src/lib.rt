@@ -1,9 +1,11 @@
-// What stands around the bytes that a section stores: its headers before them, and the padding after them. What it
-// stores goes first, since its headers count it.
+// What stands around the bytes that a section stores, and around the text of an entry: headers before them, and a NUL
+// and padding after them. What they stand around goes first, since headers count it.
 //
-// Proved: every function is total, has no `requires`, and stores just what its definition in specs/ says. Around
-// what a section stores that is the section (proofs/Closed.antt). A number that does not fit its field is stored
-// by its low bytes.
+// Proved: every function is total, and stores just what its definition in specs/ says; those that another crate can
+// call have no `requires`. Around what a section stores that is the section (proofs/Closed.antt), and around a text the
+// entry (proofs/EntryClosed.antt). A number that does not fit its field is stored by its low bytes.
+mod entry;
+
 ghost use mathlib.Core.List.{[]};
 ghost use mathlib.Core.Path.{_≡_};
 ghost use Prim.Native.Nat.{_+_, _-_};
@@ -11,11 +13,14 @@ ghost use Rattle.wire.specs.Padding.{aligned};
 ghost use Rattle.layout.specs.Kinds.{compressionNumber};
 ghost use Rattle.layout.specs.declared.section_type.SourceInfoSectionType.the-variants.{SourceContents, SourceNames, Arguments};
 ghost use Rattle.frames.specs.Frame.{framed, contentsHeader, namesHeader, argumentsHeader};
+pub use entry::close_content;
+pub use entry::close_name;
+pub use entry::close_text;
 use layout::SourceCompression;
 use layout::SourceInfoSectionType;
 
 // How far it is from one place to another; 0 where the other comes first.
-fn distance(from: usize, to: usize) -> usize
+pub(crate) fn distance(from: usize, to: usize) -> usize
     ensures { λ r. ⌜ r ≡ to - from ⌝ }
 {
     if to < from {
