@@ -1,5 +1,5 @@
 -- Calls with their answers, from a payload to its sheet and back. The answers are an independent model's (vectors a-to_sheet.tsv and
--- a-from_sheet.tsv), but for the last four, which are read off the text of request (a). Payloads are written out byte for byte, and sheets as texts.
+-- a-from_sheet.tsv), but for those at the end, which are read off the text of request (a). Payloads are written out byte for byte, and sheets as texts.
 -- proofs/Samples.antt computes them.
 use Prim.Native.Nat.{ℕ, _-_}
 use mathlib.Core.Path.{_≡_}
@@ -35,9 +35,9 @@ emptyPayload =
     0x08 ∷ 0x00 ∷ 0x00 ∷ 0x00 ∷ 0x00 ∷ 0x00 ∷ 0x00 ∷ 0x00 ∷
     []
 
--- the same with its second byte 255
-abbrev flagsSet : List ℕ
-flagsSet = set emptyPayload 1 255
+-- the same with 65,288 for its length
+abbrev lengthWrong : List ℕ
+lengthWrong = set emptyPayload 1 255
 
 -- an unknown section without bytes
 abbrev unknown256 : List ℕ
@@ -221,7 +221,7 @@ samples =
     acceptedCall 27 27 (out packedMost) (ascii "packed\t0\t0\t4294967295\t8ba2\n") ∷
     acceptedCall 67 27 (out escapedPair) (ascii "arguments\npair\tn\\t\t\\ntt\\\\t\n") ∷
     acceptedCall 70 69 (out namesAndPacked) (ascii "names\nname\t1\t\u{7f}\nname\t65536\t\npacked\t65536\t65536\t255\t62ee669dc30b3ad7a9\n") ∷
-    refused 32 3 0 (out flagsSet) ∷
+    refused 32 3 0 (out lengthWrong) ∷
     refused 2 19 6 (out emptyNames) ∷
     -- and back
     acceptedCall 11 8 (back []) emptyPayload ∷
@@ -242,6 +242,13 @@ samples =
     refused 28 20 1 (back (ascii "names")) ∷
     refused 36 20 1 (back (ascii "contents\t05\n")) ∷
     refused 40 20 1 (back (ascii "packed\t5\t10\t65535\tC7\n")) ∷
+    -- and which fault counts: of one line 20 before its texts, of a pair the name before the value, of a last line that is not closed 20 alone, and a
+    -- line's text before the next line; the number of a later line
+    refused 48 20 2 (back (ascii "names\nname\tx\t" ++ (0xFF ∷ ascii "\n"))) ∷
+    refused 36 12 0 (back (ascii "arguments\npair\t\0\t" ++ (0xFF ∷ ascii "\n"))) ∷
+    refused 48 20 2 (back (ascii "names\nname\t1\t" ++ (0xFF ∷ []))) ∷
+    refused 48 11 0 (back (ascii "names\nname\t1\t" ++ (0xFF ∷ ascii "\nx\n"))) ∷
+    refused 48 20 5 (back (ascii "names\nname\t1\ta\narguments\npair\tb\tc\nname\t2\td\n")) ∷
     []
 
 -- what the definitions give for a call that is lent so many bytes
