@@ -1,10 +1,8 @@
-//! Compares `srci_to_sheet` and `srci_from_sheet` with a sheet that is made and read over the Rust, and holds them to
-//! each other: a payload comes back from its sheet, and a sheet that is accepted from its payload.
-use crate::boundaries::LIMIT;
+//! Compares `srci_to_sheet` with a sheet that is made over the Rust, and holds it to a reading of sheets over the Rust: a
+//! payload comes back from its sheet, and a sheet that is accepted from its payload. No reading of ours is compared here.
 use crate::call::{from_sheet, make, to_sheet};
 use crate::compare::{fail, Compare};
-use crate::copy;
-use crate::output::{Calls, Outputs};
+use crate::output::Outputs;
 use crate::payloads::Random;
 use crate::rust_rows::catch;
 use crate::rust_sheet;
@@ -15,7 +13,6 @@ pub struct SheetTotals {
     payloads_back: u64,
     sheets: u64,
     accepted: u64,
-    inward: Calls,
     sheets_back: u64,
 }
 
@@ -26,7 +23,6 @@ impl SheetTotals {
             payloads_back: 0,
             sheets: 0,
             accepted: 0,
-            inward: Calls::new(from_sheet, copy::shorter),
             sheets_back: 0,
         }
     }
@@ -55,7 +51,6 @@ impl SheetTotals {
         match catch(|| rust_sheet::from_sheet(sheet)) {
             Some(Ok(payload)) => {
                 self.accepted += 1;
-                self.inward.expect_made(sheet, &payload);
                 if make(to_sheet, &payload).as_deref() != Ok(sheet) {
                     fail(sheet, 0, "its payload has another sheet");
                 }
@@ -63,11 +58,6 @@ impl SheetTotals {
                 (0, payload.len() as u32)
             }
             Some(Err((number, second))) => {
-                // what does not fit would find room in the last
-                let longest = if number == 18 { LIMIT + 1_000 } else { 1_000 };
-                for lent in [0, 8, longest] {
-                    self.inward.expect(sheet, lent, number, second, &[]);
-                }
                 (number, second)
             }
             None => fail(sheet, 0, "the Rust panics where no rule is broken"),
@@ -85,7 +75,6 @@ impl SheetTotals {
             "  {} accepted by the rules, and written by the Rust",
             self.accepted
         );
-        self.inward.print([0, 11, 12, 18, 19, 20]);
         println!(
             "{} sheets that come back from their payloads",
             self.sheets_back
