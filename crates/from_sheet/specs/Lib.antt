@@ -1,2 +1,5 @@
 pub mod Escape
 pub mod Entry
+pub mod Records
+pub mod Run
+pub mod Section

@@ -174,14 +174,14 @@ module _ (refusal : Refusal) (previous : Tag) (bytes : List ℕ) (r : Record) (e
   fs = p .rest
 
   -- what was tested
-  record Tested : Type 0 where
-    is : r ≡ saidBy t fs
-    made : isMade t fs ≡ true
-    placed : isPlaced previous t ≡ true
-    ruled : isRuled r ≡ true
-    texts : checkAll (textsOf r) ≡ good tt
+  pub record Tested : Type 0 where
+    pub is : r ≡ saidBy t fs
+    pub made : isMade t fs ≡ true
+    pub placed : isPlaced previous t ≡ true
+    pub ruled : isRuled r ≡ true
+    pub texts : checkAll (textsOf r) ≡ good tt
 
-  tested : Tested
+  pub tested : Tested
   unfolding readLine readFields
   tested =
       let (tests, rest) = check-good _ _ _ _ e in

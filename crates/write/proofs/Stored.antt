@@ -2,7 +2,7 @@
 -- header has between the text's size and the text, which is nothing for a content and the content size for a name.
 -- Assumes nothing.
 use Prim.Native.Nat.{ℕ, _+_, _-_}
-use mathlib.Core.List.{List, [], _∷_, _++_, append-assoc, flatMap}
+use mathlib.Core.List.{List, [], _∷_, _++_, append-assoc}
 use mathlib.Core.Path.{_≡_, refl, ap, _∙_}
 use native.Mathlib.Numerals.{add-one}
 use native.Mathlib.Omega.{arith}
@@ -12,25 +12,9 @@ use Rattle.wire.specs.Length.{wireSize}
 use Rattle.wire.specs.Padding.{padding, aligned}
 use Rattle.wire.proofs.NumberLaws.{length-bytesOf, fields-stored}
 use Rattle.wire.proofs.Sets.{sets-joined}
-use Rattle.format.specs.Encoding.{u16, u32, terminate, pairEntry, encodeSection, encode}
-use Rattle.format.specs.Sections.{Section}
-use Rattle.format.proofs.Encoding.{length-encode}
-use Rattle.format.proofs.MainHeader.{header-stored}
+use Rattle.format.specs.Encoding.{u32, terminate, pairEntry}
 use Rattle.format.proofs.EntryBytes.{unpadded, entryBytes}
 use Rattle.write.specs.Entry.{pair, entryStart}
-
--- ---- the main header
-
--- the main header, stored after the sections, makes the payload
-pub payload-stored :
-    (ss : List Section) (l : List ℕ) (size : ℕ) →
-    size ≡ length (encode ss) →
-    sets (sets (sets (sets l 8 (flatMap encodeSection ss)) 0 (u32 size)) 4 (u16 0)) 6 (u16 (length ss)) ≡ sets l 0 (encode ss)
-unfolding encode
-payload-stored ss l size e =
-    let bytes : List ℕ = flatMap encodeSection ss in
-    let whole : u32 size ++ (u16 0 ++ (u16 (length ss) ++ bytes)) ≡ encode ss = rw (e, length-encode ss) in
-    header-stored size (length ss) bytes l ∙ ap (λ (t : List ℕ). sets l 0 t) whole
 
 -- ---- an entry
 

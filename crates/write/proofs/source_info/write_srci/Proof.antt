@@ -4,7 +4,7 @@ use borrow.Author.Needs.{needs}
 use denote.Ref.{now}
 use Rattle.table.specs.Rows.{rowsOf}
 use Rattle.format.specs.Resolve.{sectionsOf}
-use Rattle.write.proofs.Stored.{payload-stored}
+use Rattle.format.proofs.MainHeader.{payload-stored}
 use Rattle.write.proofs.source_info.write_srci.Statement.{statement}
 use Rattle.write.proofs.source_info.write_srci.Tie as tie
 
