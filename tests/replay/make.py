@@ -7,25 +7,27 @@ r"""Writes the calls and the expected answers of the program replay.
     tests/oracle/run.sh PATH_TO_SRCI_RS cards 60 4 > target/cards.tsv
     tests/replay/make.py read READ read tests/replay/samples.tsv read target/rows.tsv write WRITE \
         list LIST list tests/replay/list_samples.tsv list target/listings.tsv \
-        public_copy COPY public_copy target/copies.tsv card REFUSED card target/cards.tsv to_sheet TO_SHEET
+        public_copy COPY public_copy target/copies.tsv card REFUSED card target/cards.tsv \
+        to_sheet TO_SHEET from_sheet FROM_SHEET
 
 The arguments are jobs, each with a list of its calls. READ, WRITE, LIST and COPY are the lists of an
 independent model of document 01; they are not in this repository. REFUSED has, for each refusal from 2 to 15,
-the first three calls of COPY that get it: a refused payload has no public copy, and so no card. TO_SHEET is the list of
-a model of request (a) of document 02.
+the first three calls of COPY that get it: a refused payload has no public copy, and so no card. TO_SHEET and FROM_SHEET
+are the lists of a model of request (a) of document 02.
 
 A list has a call to a line, its fields parted by tabs; '-' is empty, bytes are hex, and lists have commas. A
 line that begins with '#' is passed over. Of reading: the payload, how many numbers are lent, the number,
 the second number, and the numbers of the stored rows. Of writing: the payload, the edit text, the table's
-numbers, how many bytes are lent, the number, the second number, and the stored bytes. Of listing, of
-making public copies, of making cards and of making sheets: the payload, how many bytes are lent, the number, the second number, and the stored bytes.
+numbers, how many bytes are lent, the number, the second number, and the stored bytes. Of listing, of making public copies,
+cards and sheets, and of making payloads of sheets: the payload or the sheet, how many bytes are lent, the number, the
+second number, and the stored bytes.
 """
 import pathlib
 import sys
 
 NUMBERS = 128  # the table of the program has so many numbers
 BYTES = 512  # and its output so many bytes
-LONGEST = 4096  # and it takes payloads and edit texts of so many bytes
+LONGEST = 4096  # and it takes payloads, sheets and edit texts of so many bytes
 SIZE = 524288  # and a file of calls of so many bytes
 
 
@@ -47,13 +49,13 @@ def write(payload, edit, rows, lent, number, second, stored):
     return [lent, payload, edit, rows], [number, second, str(BYTES - len(stored) // 2), stored]
 
 
-def made(payload, lent, number, second, stored):
-    payload, stored = payload.replace("-", ""), stored.replace("-", "")
-    assert int(lent) <= BYTES and len(payload) <= 2 * LONGEST
-    return [lent, payload], [number, second, str(BYTES - len(stored) // 2), stored]
+def made(given, lent, number, second, stored):
+    given, stored = given.replace("-", ""), stored.replace("-", "")
+    assert int(lent) <= BYTES and len(given) <= 2 * LONGEST
+    return [lent, given], [number, second, str(BYTES - len(stored) // 2), stored]
 
 
-JOBS = {"read": read, "write": write, "list": made, "public_copy": made, "card": made, "to_sheet": made}
+JOBS = {"read": read, "write": write, "list": made, "public_copy": made, "card": made, "to_sheet": made, "from_sheet": made}
 
 
 def main(words):

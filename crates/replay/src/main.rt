@@ -7,8 +7,8 @@
 // - `write LENT PAYLOAD EDIT ROWS`: how many bytes are lent, the payload, the edit text, and the numbers of
 //   the rows with commas between; `-` is none. Answered: how many bytes of the output were left as they were,
 //   and the stored bytes.
-// - `list LENT PAYLOAD`, `public_copy LENT PAYLOAD`, `card LENT PAYLOAD` and `to_sheet LENT PAYLOAD`: how many
-//   bytes are lent, and the payload. Answered as a call of writing is.
+// - `list LENT PAYLOAD`, `public_copy LENT PAYLOAD`, `card LENT PAYLOAD`, `to_sheet LENT PAYLOAD` and
+//   `from_sheet LENT SHEET`: how many bytes are lent, and the payload or the sheet. Answered as a call of writing is.
 // The table has 128 numbers and the output 512 bytes, of which a call is lent the first ones, so that a store
 // past those would show.
 //
@@ -32,7 +32,8 @@
 // - 42 calls with payloads that the model refuses to copy, three for each refusal from 2 to 15;
 // - 60 calls whose card the published Rust printed of the copy that it wrote (tests/oracle/rows.rs), with outputs
 //   as for those of listing.
-// Of making sheets: 119 calls worked out by an independent model of request (a) of document 02.
+// Of making sheets: 119 calls worked out by an independent model of request (a) of document 02. Of making payloads of
+// sheets: 120 calls worked out by that model.
 ghost use Prim.Native.Nat.{_≤_};
 ghost use lib.ListN.{length};
 use layout::Answer;
@@ -249,28 +250,30 @@ fn replay_write<'a>(payload: &'a [u8], edit: &'a [u8], rows: &[u32], lent: usize
     print_output(&output, stored(answer, BYTES));
 }
 
-// A job that takes a payload and an output.
+// A job that takes an input, which is a payload or a sheet, and an output.
 enum Job {
     List,
     PublicCopy,
     Card,
     ToSheet,
+    FromSheet,
 }
 
-fn make(job: Job, payload: &[u8], output: &mut [u8]) -> Answer {
+fn make(job: Job, input: &[u8], output: &mut [u8]) -> Answer {
     match job {
-        Job::List => listing::list(payload, output),
-        Job::PublicCopy => public_copy::public_copy(payload, output),
-        Job::Card => card::card(payload, output),
-        Job::ToSheet => to_sheet::to_sheet(payload, output),
+        Job::List => listing::list(input, output),
+        Job::PublicCopy => public_copy::public_copy(input, output),
+        Job::Card => card::card(input, output),
+        Job::ToSheet => to_sheet::to_sheet(input, output),
+        Job::FromSheet => from_sheet::from_sheet(input, output),
     }
 }
 
-fn replay_made(job: Job, payload: &[u8], lent: usize)
+fn replay_made(job: Job, input: &[u8], lent: usize)
     requires { ⌜ lent ≤ 512 ⌝ }
 {
     let mut output = [UNTOUCHED_BYTE; BYTES];
-    let answer = make(job, payload, &mut output[..lent]);
+    let answer = make(job, input, &mut output[..lent]);
     print_answer(answer);
     print_output(&output, stored(answer, BYTES));
 }
@@ -340,9 +343,9 @@ fn made_line(job: Job, fields: &[u8]) {
         return;
     }
     let start = space + 1;
-    let mut payload = io::buffer();
-    let count = decode(&fields[start..], &mut payload);
-    replay_made(job, &payload[..count], lent);
+    let mut input = io::buffer();
+    let count = decode(&fields[start..], &mut input);
+    replay_made(job, &input[..count], lent);
 }
 
 // A call of the job that the line begins with. A line that names no job prints nothing.
@@ -371,6 +374,9 @@ fn replay_line(line: &[u8]) {
     }
     if check::same(word, b"to_sheet") {
         made_line(Job::ToSheet, fields);
+    }
+    if check::same(word, b"from_sheet") {
+        made_line(Job::FromSheet, fields);
     }
 }
 

@@ -11,6 +11,7 @@ ghost use Rattle.format.specs.Listing.{listAnswer, listOutput};
 ghost use Rattle.format.specs.PublicCopy.{copyAnswer, copyOutput};
 ghost use Rattle.format.specs.Card.{cardAnswer, cardOutput};
 ghost use Rattle.sheet.specs.ToSheet.{toSheetAnswer, toSheetOutput};
+ghost use Rattle.sheet.specs.FromSheet.{fromSheetAnswer, fromSheetOutput};
 ghost use Rattle.srci.specs.Secrecy.{Called};
 use layout::Answer;
 
@@ -103,5 +104,17 @@ pub extern "C" fn srci_to_sheet(payload: &[u8], output: &mut [u8], second: &mut 
     ensures { λ _. ⌜ now (second .exit) ≡ answerSecond (toSheetAnswer (now (payload .entry)) (length (now (output .entry)))) ⌝ }
 {
     let answer = to_sheet::to_sheet(payload, output);
+    tell(answer, second)
+}
+
+// Makes the payload of a sheet in a lent output. Answers 0, or the refusal's number. Stores in `second` how many bytes
+// were stored, or the refusal's second number.
+#[no_mangle]
+pub extern "C" fn srci_from_sheet(sheet: &[u8], output: &mut [u8], second: &mut u32) -> u32
+    ensures { λ r. ⌜ r ≡ answerNumber (fromSheetAnswer (now (sheet .entry)) (length (now (output .entry)))) ⌝ }
+    ensures { λ _. ⌜ now (output .exit) ≡ fromSheetOutput (now (sheet .entry)) (now (output .entry)) ⌝ }
+    ensures { λ _. ⌜ now (second .exit) ≡ answerSecond (fromSheetAnswer (now (sheet .entry)) (length (now (output .entry)))) ⌝ }
+{
+    let answer = from_sheet::from_sheet(sheet, output);
     tell(answer, second)
 }

@@ -43,8 +43,8 @@ slice-aggregate-decode c = search needs
 decode-requires : tie.Need-decode-requires
 decode-requires c κs = search needs
 
-array-share-prefix-payload : tie.Need-array-share-prefix-payload
-array-share-prefix-payload c = search needs
+array-share-prefix-input : tie.Need-array-share-prefix-input
+array-share-prefix-input c = search needs
 
 slice-aggregate-replay-made : tie.Need-slice-aggregate-replay-made
 slice-aggregate-replay-made c = sym (length-take-le _ _ (omega arith))
@@ -71,7 +71,7 @@ made-line-spec =
     part-decode-end
     slice-aggregate-decode
     decode-requires
-    array-share-prefix-payload
+    array-share-prefix-input
     slice-aggregate-replay-made
     replay-made-requires
     returns-3)

@@ -82,6 +82,15 @@ same-requires-6 c κs = search needs
 made-line-requires-4 : tie.Need-made-line-requires-4
 made-line-requires-4 c κs = search needs
 
+slice-aggregate-same-7 : tie.Need-slice-aggregate-same-7
+slice-aggregate-same-7 c = search needs
+
+same-requires-7 : tie.Need-same-requires-7
+same-requires-7 c κs = search needs
+
+made-line-requires-5 : tie.Need-made-line-requires-5
+made-line-requires-5 c κs = search needs
+
 returns-2 : tie.Need-returns-2
 returns-2 c = search needs
 
@@ -117,5 +126,8 @@ replay-line-spec =
     slice-aggregate-same-6
     same-requires-6
     made-line-requires-4
+    slice-aggregate-same-7
+    same-requires-7
+    made-line-requires-5
     returns-2
     returns-3)
