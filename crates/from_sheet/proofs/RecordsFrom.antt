@@ -25,7 +25,7 @@ use Rattle.sheet.proofs.LinesRead.{tested}
 use Rattle.sheet.proofs.PartsFound.{ends, part-end, last-part, next-part}
 use Rattle.sheet.proofs.SheetsRead.{read-records}
 use Rattle.lines.specs.Measure.{lineEnd}
-use Rattle.from_sheet.specs.Records.{recordOf, closed, recordsFrom, sectionsFrom, Checked, AllChecked, CheckedFrom, SectionsFrom}
+use Rattle.from_sheet.specs.Records.{recordOf, closed, recordsFrom, sectionsFrom, LineChecked, LinesChecked, CheckedFrom, AtSection}
 
 -- ---- from a place on
 
@@ -37,12 +37,12 @@ module _ (s : List ℕ) (at end : ℕ) where
   pub record Next : Type 0 where
     pub least : at ≤ end
     pub most : end < length s
-    pub line : Checked here
+    pub line : LineChecked here
     pub checked : CheckedFrom s (end + 1)
     pub records : recordsFrom s at ≡ recordOf here ∷ recordsFrom s (end + 1)
 
   pub next : end ≡ lineEnd s at → at < length s → CheckedFrom s at → Next
-  unfolding AllChecked closed
+  unfolding LinesChecked closed
   next is some all = go (ltb end (length s)) refl
     where
       least : until (ends newline) (drop at s) ≤ length (drop at s)
@@ -58,18 +58,18 @@ module _ (s : List ℕ) (at end : ℕ) where
       go true e =
           let h = ltb-true end (length s) e in
           let parts = next-part newline s at end is h in
-          let (line, rest) = subst (λ (l : List (List ℕ)). AllChecked (split newline (drop at s) .first) l) parts all in
+          let (line, rest) = subst (λ (l : List (List ℕ)). LinesChecked (split newline (drop at s) .first) l) parts all in
           record {
             least = omega arith;
             most = h;
-            line = subst Checked (sym first) line;
+            line = subst LineChecked (sym first) line;
             checked = rest;
             records = ap (λ (l : List (List ℕ)). map recordOf (closed (split newline (drop at s) .first) l)) parts ∙ ap (λ (l : List ℕ). recordOf l ∷ recordsFrom s (end + 1)) (sym first);
           }
       go false e =
           let h = ltb-false end (length s) e in
           let whole : end ≡ length s = omega (arith, least, long) in
-          let last : here ≡ [] = first ∙ subst (λ (l : List (List ℕ)). AllChecked (split newline (drop at s) .first) l) (last-part newline s at end is whole) all in
+          let last : here ≡ [] = first ∙ subst (λ (l : List (List ℕ)). LinesChecked (split newline (drop at s) .first) l) (last-part newline s at end is whole) all in
           absurd (omega (arith, ap length last, length-take-le (end - at) (drop at s) (omega (arith, long))))
 
 pub records-end : (s : List ℕ) (at : ℕ) → length s ≤ at → recordsFrom s at ≡ []
@@ -81,8 +81,8 @@ records-end s at h = rw (drop-of-length-le s h)
 read-lines :
     (rest : List (List ℕ)) (n : ℕ) (previous : Tag) (first : List ℕ) (rs : List Record) →
     readLines n previous first rest ≡ good rs →
-    (map recordOf (closed first rest) ≡ rs) × AllChecked first rest
-unfolding readLines closed AllChecked
+    (map recordOf (closed first rest) ≡ rs) × LinesChecked first rest
+unfolding readLines closed LinesChecked
 read-lines [] n previous last rs e =
     let (empty, same) = check-good _ _ _ _ e in
     (cc, none last (eqb-true (length last) 0 empty))
@@ -99,7 +99,7 @@ read-lines (second ∷ rest) n previous first rs e =
     let all : r ∷ others ≡ rs = cc in
     (ap₂ (λ (a : Record) (l : List Record). a ∷ l) own records ∙ all, ((t .made, subst (λ (r : Record). isRuled r ≡ true) (t .is) (t .ruled)), checked))
 
-pub sheet-read : (s : List ℕ) (rs : List Record) → sheetRecords s ≡ good rs → (recordsFrom s 0 ≡ rs) × SectionsFrom s 0
+pub sheet-read : (s : List ℕ) (rs : List Record) → sheetRecords s ≡ good rs → (recordsFrom s 0 ≡ rs) × AtSection s 0
 unfolding sheetRecords
 sheet-read s rs e =
     let (records, checked) = read-lines (split newline s .rest) 1 None (split newline s .first) rs e in
@@ -108,7 +108,7 @@ sheet-read s rs e =
 -- and its payload: the sections of its lines, encoded
 pub record Payload (s p : List ℕ) : Type 0 where
   pub is : p ≡ encode (sectionsFrom s 0)
-  pub sound : SectionsFrom s 0
+  pub sound : AtSection s 0
   pub few : length (sectionsFrom s 0) ≤ 65535
   pub small : length p ≤ limit
 

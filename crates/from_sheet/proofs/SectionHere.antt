@@ -21,7 +21,7 @@ use Rattle.format.proofs.SectionBytes.{filled, length-section}
 use Rattle.frames.proofs.Closed.{closed-size, section-closed}
 use Rattle.sheet.specs.Lines.{isMade, isRuled}
 use Rattle.lines.specs.Measure.{lineEnd}
-use Rattle.from_sheet.specs.Records.{tagIn, fieldsOf, recordOf, recordsFrom, sectionsFrom, CheckedFrom, SectionsFrom}
+use Rattle.from_sheet.specs.Records.{tagIn, fieldsOf, recordOf, recordsFrom, sectionsFrom, CheckedFrom, AtSection}
 use Rattle.from_sheet.specs.Run.{run, past}
 use Rattle.from_sheet.specs.Section.{sectionOf, sectionAt, headerSize, Framed}
 use Rattle.from_sheet.proofs.RecordsFrom.{here, Next, next}
@@ -49,7 +49,7 @@ module _ (s : List ℕ) (at end : ℕ) where
     pub is : sectionAt s at ≡ found
     pub all : sectionsFrom s at ≡ found ∷ sections rs
 
-  pub begun-here : end ≡ lineEnd s at → at < length s → SectionsFrom s at → Begun
+  pub begun-here : end ≡ lineEnd s at → at < length s → AtSection s at → Begun
   unfolding inOrder sections
   begun-here is some (checked, order) =
       let n = next s at end is some checked in
@@ -93,13 +93,13 @@ module _ (s : List ℕ) (at end : ℕ) where
         (after : ℕ) →
         CheckedFrom s after →
         recordsFrom s after ≡ past (entryTag t) rs →
-        SectionsFrom s after × (sectionsFrom s at ≡ sectionAt s at ∷ sectionsFrom s after)
+        AtSection s after × (sectionsFrom s at ≡ sectionAt s at ∷ sectionsFrom s after)
     next-here after checked records =
         let left : sectionsFrom s after ≡ sections rs = ap sections records ∙ past-sections (entryTag t) (entry-begins-none t) rs in
         ((checked, ap (inOrder None) records ∙ past-order t rs (h .order)), rw (h .is, left) (h .all))
 
 -- where a sheet has more lines, there is a section
-pub first-here : (s : List ℕ) (at : ℕ) → at < length s → SectionsFrom s at → (rest : List Section) × (sectionsFrom s at ≡ sectionAt s at ∷ rest)
+pub first-here : (s : List ℕ) (at : ℕ) → at < length s → AtSection s at → (rest : List Section) × (sectionsFrom s at ≡ sectionAt s at ∷ rest)
 first-here s at some sound =
     let h = begun-here s at (lineEnd s at) refl some sound in
     (sections (recordsFrom s (lineEnd s at + 1)), h .all ∙ ap (λ (x : Section). x ∷ sections (recordsFrom s (lineEnd s at + 1))) (sym (h .is)))

@@ -35,17 +35,18 @@ module _ (s : List ℕ) (at : ℕ) where
   sectionsFrom = sections recordsFrom
 
 -- what the first pass found of a line: it has just its fields, each of which is one, and it follows the rule of unknown sections
-abbrev pub Checked : List ℕ → Type 0
-Checked line = (isMade (tagIn line) (fieldsOf line) ≡ true) × (isRuled (recordOf line) ≡ true)
+abbrev pub LineChecked : List ℕ → Type 0
+LineChecked line = (isMade (tagIn line) (fieldsOf line) ≡ true) × (isRuled (recordOf line) ≡ true)
 
 -- and of all lines; what follows the last newline is empty
-unfoldable pub AllChecked : List ℕ → List (List ℕ) → Type 0
-AllChecked last [] = last ≡ []
-AllChecked first (next ∷ rest) = Checked first × AllChecked next rest
+unfoldable pub LinesChecked : List ℕ → List (List ℕ) → Type 0
+LinesChecked last [] = last ≡ []
+LinesChecked first (next ∷ rest) = LineChecked first × LinesChecked next rest
 
--- the lines from a place on, which is a section's line or the end
+-- of those from a place on
 abbrev pub CheckedFrom : List ℕ → ℕ → Type 0
-CheckedFrom s at = AllChecked (split newline (drop at s) .first) (split newline (drop at s) .rest)
+CheckedFrom s at = LinesChecked (split newline (drop at s) .first) (split newline (drop at s) .rest)
 
-abbrev pub SectionsFrom : List ℕ → ℕ → Type 0
-SectionsFrom s at = CheckedFrom s at × (inOrder None (recordsFrom s at) ≡ true)
+-- and that place is a section's line, or the end
+abbrev pub AtSection : List ℕ → ℕ → Type 0
+AtSection s at = CheckedFrom s at × (inOrder None (recordsFrom s at) ≡ true)

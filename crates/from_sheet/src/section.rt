@@ -11,7 +11,7 @@ ghost use Rattle.table.specs.Tags.{entryTag, beginsSection};
 ghost use Rattle.format.specs.Encoding.{limit, storedBytes, encodeSection};
 ghost use Rattle.format.specs.Records.{inOrder};
 ghost use Rattle.sheet.specs.Lines.{saidBy, isMade, isRuled};
-ghost use Rattle.from_sheet.specs.Records.{fieldsOf, recordsFrom, sectionsFrom, CheckedFrom, SectionsFrom};
+ghost use Rattle.from_sheet.specs.Records.{fieldsOf, recordsFrom, sectionsFrom, CheckedFrom, AtSection};
 ghost use Rattle.from_sheet.specs.Run.{run, past};
 ghost use Rattle.from_sheet.specs.Section.{sectionOf, sectionAt, headerSize, Framed};
 use crate::hex::write_unpaired;
@@ -138,11 +138,11 @@ fn close(output: &mut [u8], line: &[u8], tag: Tag, start: u32, end: u32, count: 
 // Stores the section that the line at a position begins, with its entries, and answers the position after it.
 pub fn store_section(sheet: &[u8], output: &mut [u8], position: Position) -> Position
     requires { ⌜ position .at < length (now sheet) ⌝ }
-    requires { ⌜ SectionsFrom (now sheet) (position .at) ⌝ }
+    requires { ⌜ AtSection (now sheet) (position .at) ⌝ }
     requires { ⌜ position .to + length (encodeSection (sectionAt (now sheet) (position .at))) ≤ length (now output) ⌝ }
     requires { ⌜ position .to + length (encodeSection (sectionAt (now sheet) (position .at))) ≤ limit ⌝ }
     ensures { λ r. ⌜ position .at < r .at ⌝ }
-    ensures { λ r. ⌜ SectionsFrom (now (sheet .entry)) (r .at) ⌝ }
+    ensures { λ r. ⌜ AtSection (now (sheet .entry)) (r .at) ⌝ }
     ensures { λ r. ⌜ sectionsFrom (now (sheet .entry)) (position .at) ≡ sectionAt (now (sheet .entry)) (position .at) ∷ sectionsFrom (now (sheet .entry)) (r .at) ⌝ }
     ensures { λ r. ⌜ r .to ≡ position .to + length (encodeSection (sectionAt (now (sheet .entry)) (position .at))) ⌝ }
     ensures { λ _. ⌜ now (output .exit) ≡ sets (now (output .entry)) (position .to) (encodeSection (sectionAt (now (sheet .entry)) (position .at))) ⌝ }

@@ -6,14 +6,14 @@ ghost use Prim.Native.Nat.{_+_, _≤_};
 ghost use lib.ListN.{length};
 ghost use lib.Seq.{sets};
 ghost use Rattle.format.specs.Encoding.{limit, encodeSection, encode};
-ghost use Rattle.from_sheet.specs.Records.{sectionsFrom, SectionsFrom};
+ghost use Rattle.from_sheet.specs.Records.{sectionsFrom, AtSection};
 use crate::section::Position;
 use crate::section::store_section;
 use layout::SourceInfoSectionType;
 
 // All sections, after the main header. Answers how many they are.
 fn store_sections(sheet: &[u8], output: &mut [u8]) -> u16
-    requires { ⌜ SectionsFrom (now sheet) 0 ⌝ }
+    requires { ⌜ AtSection (now sheet) 0 ⌝ }
     requires { ⌜ length (sectionsFrom (now sheet) 0) ≤ 65535 ⌝ }
     requires { ⌜ 8 + length (flatMap encodeSection (sectionsFrom (now sheet) 0)) ≤ length (now output) ⌝ }
     requires { ⌜ 8 + length (flatMap encodeSection (sectionsFrom (now sheet) 0)) ≤ limit ⌝ }
@@ -34,7 +34,7 @@ fn store_sections(sheet: &[u8], output: &mut [u8]) -> u16
 
 // The payload of a sheet, of so many bytes, from the output's start on.
 pub fn store_srci(sheet: &[u8], output: &mut [u8], size: u32)
-    requires { ⌜ SectionsFrom (now sheet) 0 ⌝ }
+    requires { ⌜ AtSection (now sheet) 0 ⌝ }
     requires { ⌜ length (sectionsFrom (now sheet) 0) ≤ 65535 ⌝ }
     requires { ⌜ size ≡ length (encode (sectionsFrom (now sheet) 0)) ⌝ }
     requires { ⌜ size ≤ length (now output) ⌝ }

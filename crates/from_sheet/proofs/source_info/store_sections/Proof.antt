@@ -12,7 +12,7 @@ use Rattle.wire.proofs.Sets.{sets-append}
 use Rattle.format.specs.Encoding.{limit, encodeSection}
 use Rattle.format.specs.Records.{sections}
 use Rattle.format.specs.Sections.{Section}
-use Rattle.from_sheet.specs.Records.{sectionsFrom, SectionsFrom}
+use Rattle.from_sheet.specs.Records.{sectionsFrom, AtSection}
 use Rattle.from_sheet.specs.Section.{sectionAt}
 use Rattle.from_sheet.proofs.RecordsFrom.{records-end}
 use Rattle.from_sheet.proofs.SectionHere.{first-here}
@@ -25,7 +25,7 @@ bytes s at = flatMap encodeSection (sectionsFrom s at)
 
 abbrev Inv-loop : tie.InvT-loop
 Inv-loop sheet output₀ position₀ sections₀ output position sections =
-    SectionsFrom sheet (position .at)
+    AtSection sheet (position .at)
     × (sections + length (sectionsFrom sheet (position .at)) ≡ length (sectionsFrom sheet 0))
     × (position .to + length (bytes sheet (position .at)) ≡ 8 + length (bytes sheet 0))
     × (sets output (position .to) (bytes sheet (position .at)) ≡ sets output₀ 8 (bytes sheet 0))
