@@ -116,5 +116,6 @@ title "the command"
 python3 hosts/tests/command.py "$out/bin/srci"
 python3 hosts/tests/usage.py "$out/bin/srci"
 python3 hosts/tests/files.py "$out/bin/srci"
+python3 hosts/tests/editing.py "$out/bin/srci"
 
 echo "hosts: all passed"

@@ -241,6 +241,13 @@ uint32_t srci_card(const uint8_t *payload, size_t payload_length, uint8_t *outpu
 uint32_t srci_to_sheet(const uint8_t *payload, size_t payload_length, uint8_t *output, size_t output_length,
                        uint32_t *second);
 
+/* Makes the payload of a sheet, whose lines are those of srci_to_sheet: that call on the payload gives this sheet back,
+ * byte for byte. Each line is closed by a newline, the last one too, and nothing is passed over: neither an empty line
+ * nor a carriage return. A sheet may be of any length, and an empty one makes the payload without sections. Refusals:
+ * 20, with the line's number from 1, 11 and 12 by the first line at fault, then 18, then 19. */
+uint32_t srci_from_sheet(const uint8_t *sheet, size_t sheet_length, uint8_t *output, size_t output_length,
+                         uint32_t *second);
+
 #ifdef __cplusplus
 }
 #endif

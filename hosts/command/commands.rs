@@ -1,5 +1,6 @@
 //! The commands: their words, what they do, and what their help says.
 use crate::arguments::Call;
+use crate::edit;
 use crate::failure::Failure;
 use crate::jobs;
 
@@ -22,7 +23,7 @@ pub struct Shared {
     pub text: &'static str,
 }
 
-pub const COMMANDS: [Command; 8] = [
+pub const COMMANDS: [Command; 10] = [
     Command {
         name: "card",
         operands: &["FILE.."],
@@ -84,6 +85,24 @@ pub const COMMANDS: [Command; 8] = [
         run: jobs::sheet,
         does: "write the sheet: everything that the payload holds, as lines of text",
         more: SHEET,
+        shared: &[&OUT],
+    },
+    Command {
+        name: "from-sheet",
+        operands: &["SHEET", "OUT"],
+        options: &[FORCE],
+        run: jobs::from_sheet,
+        does: "write the payload of a sheet",
+        more: FROM_SHEET,
+        shared: &[&OUT],
+    },
+    Command {
+        name: "edit",
+        operands: &["FILE", "[OUT]"],
+        options: &[FORCE],
+        run: edit::edit,
+        does: "open the sheet in your editor, and then write its payload",
+        more: EDIT,
         shared: &[&OUT],
     },
     Command {
@@ -153,6 +172,34 @@ line are \\\\, \\t and \\n; all other characters stand as they are. A sheet with
 show, or that change how others show, goes to a terminal only with --force.
 ";
 
+const FROM_SHEET: &str = "\
+The lines are those that 'srci sheet' writes, and 'srci help sheet' tells: the payload's sheet is
+SHEET itself, byte for byte. Each line is closed by a new line, the last one too. Nothing is passed
+over: no empty line, no space beside a tab or in its place, no carriage return at the end of a word or
+a number. SHEET may be -, for standard input.
+
+A refused line is named by its number from 1, as in sky.sheet:12:, and shown.
+";
+
+const EDIT: &str = "\
+The sheet ('srci help sheet' tells its lines) is opened in the editor that the variable VISUAL or, if
+that is empty, EDITOR names. It may have arguments; one that would return at once needs them, as in
+'code --wait'. When the editor closes, the sheet's payload is written to OUT, or in place of FILE
+where no OUT is named: whole, or not at all. Where the sheet did not change, nothing is written. FILE
+and OUT are files here, and never -.
+
+Where the sheet is refused, its line is named and shown, and at a terminal you are asked whether to
+edit again. Without a terminal, or if you do not, the exit status is 1, and the sheet is kept and its
+name told. So it is where the editor fails, or OUT cannot be written, with exit status 3.
+
+The sheet stands beside FILE, as sky.sheet beside sky.srci, or sky-2.sheet where there is one; you
+alone can read it, and it is removed in the end. Secrecy does not cover it: it shows everything that
+the payload holds, packed and unknown bytes too. Copies that an editor makes of it stay.
+
+Neither FILE nor OUT is locked while the editor is open. Where FILE has changed when it closes,
+nothing is written, and the sheet is kept.
+";
+
 pub const SHARED: [&Shared; 3] = [&SEVERAL, &FIELDS, &OUT];
 
 const SEVERAL: Shared = Shared {
@@ -199,7 +246,7 @@ pub const STATUSES: [(&str, &str); 4] = [
     ("2", "wrong usage"),
     (
         "3",
-        "a file cannot be read or written, or memory is lacking",
+        "a file cannot be read or written, the editor failed, or memory is lacking",
     ),
 ];
 

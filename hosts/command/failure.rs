@@ -9,6 +9,8 @@ pub enum Failure {
     Refused(String, Refusal),
     /// What was refused, why, and where in it.
     RefusedAt(String, Refusal, Location),
+    /// The sheet that was refused, why, and the line at fault as it is shown.
+    RefusedLine(String, Refusal, String),
     /// What was refused, and why: it is a shader container.
     Container(String, Refusal),
     /// The payload in which no file has this name.
@@ -21,7 +23,13 @@ pub enum Failure {
     NotRead(String, io::Error),
     /// Which file cannot be written, and why.
     NotWritten(String, io::Error),
-    /// Of several files, which were told already: the greatest status.
+    /// Which file cannot be removed, and why.
+    NotRemoved(String, io::Error),
+    /// Which editor failed, and how.
+    NotEdited(OsString, String),
+    /// What failed, and the sheet that is kept.
+    Kept(Box<Failure>, String),
+    /// What was told already: its status, of several files the greatest.
     Told(u8),
 }
 
@@ -29,9 +37,11 @@ impl Failure {
     pub fn status(&self) -> u8 {
         match self {
             Failure::Refused(..) | Failure::RefusedAt(..) | Failure::Container(..) => 1,
-            Failure::NoSuchName(..) | Failure::NameTaken(..) => 1,
+            Failure::RefusedLine(..) | Failure::NoSuchName(..) | Failure::NameTaken(..) => 1,
             Failure::Usage(..) => 2,
-            Failure::NotRead(..) | Failure::NotWritten(..) => 3,
+            Failure::NotRead(..) | Failure::NotWritten(..) | Failure::NotRemoved(..) => 3,
+            Failure::NotEdited(..) => 3,
+            Failure::Kept(failure, _) => failure.status(),
             Failure::Told(status) => *status,
         }
     }
@@ -43,6 +53,15 @@ impl Failure {
             Failure::Refused(what, refusal) => writeln!(out, "srci: {what}: refused {refusal}"),
             Failure::RefusedAt(what, refusal, location) => {
                 writeln!(out, "srci: {what}: refused {refusal} ({location})")
+            }
+            Failure::RefusedLine(what, refusal, shown) => {
+                // the line's number stands where editors and terminals look for it
+                let (number, name, meaning) = (refusal.number(), refusal.name(), refusal.meaning());
+                let line = refusal.second();
+                writeln!(
+                    out,
+                    "srci: {what}:{line}: refused {number}, {name}: {meaning}\n    {shown}"
+                )
             }
             Failure::Container(what, refusal) => writeln!(
                 out,
@@ -62,6 +81,22 @@ impl Failure {
             Failure::NotWritten(_, error) if error.kind() == io::ErrorKind::BrokenPipe => Ok(()),
             Failure::NotWritten(what, error) => {
                 writeln!(out, "srci: cannot write {what}: {error}")
+            }
+            Failure::NotRemoved(what, error) => {
+                writeln!(out, "srci: cannot remove {what}: {error}")
+            }
+            Failure::NotEdited(editor, how) => {
+                writeln!(
+                    out,
+                    "srci: the editor {editor:?} failed: {how}; nothing is written"
+                )
+            }
+            Failure::Kept(failure, sheet) => {
+                failure.tell();
+                writeln!(
+                    out,
+                    "srci: the sheet is kept as {sheet}, for 'srci from-sheet'"
+                )
             }
             Failure::Told(_) => Ok(()),
         };

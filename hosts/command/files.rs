@@ -6,18 +6,23 @@ use std::fs::{self, File};
 use std::io::{self, BufWriter, IsTerminal, Read, Write};
 use std::os::fd::AsFd;
 
-/// The bytes of a payload, and of a longer file one byte more than a payload may have.
-pub fn read(file: &OsStr) -> Result<Vec<u8>, Failure> {
-    let mut bytes = Vec::new();
+/// The bytes of a file, and of one that is longer than the most that are wanted one byte more.
+pub fn read(file: &OsStr, most: usize) -> Result<Vec<u8>, Failure> {
     let opened = if is_stream(file, 0) {
         stream(&io::stdin(), 0)
     } else {
         File::open(file)
     };
+    let whole = |file: File| {
+        // room for all of it at once, where its length is known
+        let length = file.metadata().map_or(0, |there| there.len());
+        let mut bytes = Vec::with_capacity(usize::try_from(length).unwrap_or(most).min(most + 1));
+        file.take(most as u64 + 1).read_to_end(&mut bytes)?;
+        Ok(bytes)
+    };
     opened
-        .and_then(|file| file.take(srci::LIMIT as u64 + 1).read_to_end(&mut bytes))
-        .map_err(|error| Failure::NotRead(named(file), error))?;
-    Ok(bytes)
+        .and_then(whole)
+        .map_err(|error| Failure::NotRead(named(file), error))
 }
 
 /// Whether a word names a regular file, which is read without waiting for anybody.
@@ -31,6 +36,15 @@ pub fn named(file: &OsStr) -> String {
         "standard input".to_string()
     } else {
         format!("{file:?}")
+    }
+}
+
+/// The same without quotes, where it is text.
+pub fn plainly_named(file: &OsStr) -> String {
+    match file.to_str() {
+        Some(name) if !is_stream(file, 0) => name.to_string(),
+        // in quotes, with escapes for what is no text
+        _ => named(file),
     }
 }
 

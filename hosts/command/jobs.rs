@@ -5,6 +5,7 @@ use crate::failure::Failure;
 use crate::files;
 use crate::output::Output;
 use crate::parts;
+use crate::sheet::Sheet;
 use crate::table::{Columns, Table};
 use crate::text::{Field, Json};
 use crate::{facts, rows};
@@ -104,26 +105,26 @@ pub fn sheet(call: &Call) -> Result<(), Failure> {
     out.write(&sheet)
 }
 
-/// Reads FILE and finds OUT. A file is read after OUT is locked, since both can be one. A stream is read before, since
-/// others would wait for the lock as long as nothing comes.
+pub fn from_sheet(call: &Call) -> Result<(), Failure> {
+    let [file, out] = [0, 1].map(|place| call.operands[place].as_os_str());
+    let read = || Sheet::read(file);
+    let (sheet, out) = Output::open_and_read(out, call.has(FORCE), file, read)?;
+    out.write(&sheet.payload()?)
+}
+
 fn read_and_open<'a>(
     call: &Call,
     file: &'a OsStr,
     out: &OsStr,
 ) -> Result<(Payload<'a>, Output), Failure> {
     let read = || Payload::read(file, false);
-    let open = || Output::open(out, call.has(FORCE));
-    if files::is_file(file) {
-        open().and_then(|out| Ok((read()?, out)))
-    } else {
-        read().and_then(|payload| Ok((payload, open()?)))
-    }
+    Output::open_and_read(out, call.has(FORCE), file, read)
 }
 
 /// The payload in a FILE.
-struct Payload<'a> {
+pub struct Payload<'a> {
     file: &'a OsStr,
-    bytes: Vec<u8>,
+    pub bytes: Vec<u8>,
     /// Whether it is told with its name.
     is_named: bool,
 }
@@ -152,8 +153,8 @@ fn each(call: &Call, mut job: impl FnMut(Payload) -> Result<(), Failure>) -> Res
 }
 
 impl<'a> Payload<'a> {
-    fn read(file: &'a OsStr, is_named: bool) -> Result<Self, Failure> {
-        let bytes = files::read(file)?;
+    pub fn read(file: &'a OsStr, is_named: bool) -> Result<Self, Failure> {
+        let bytes = files::read(file, srci::LIMIT)?;
         Ok(Payload {
             file,
             bytes,
@@ -162,7 +163,7 @@ impl<'a> Payload<'a> {
     }
 
     /// What a job makes of the payload.
-    fn by<T>(&self, job: impl Fn(&[u8]) -> Result<T, Refusal>) -> Result<T, Failure> {
+    pub fn by<T>(&self, job: impl Fn(&[u8]) -> Result<T, Refusal>) -> Result<T, Failure> {
         job(&self.bytes).map_err(|refusal| {
             let named = files::named(self.file);
             if self.bytes.starts_with(b"DXBC") {
@@ -184,12 +185,7 @@ impl<'a> Payload<'a> {
 
     /// The file's name, if it is to be told.
     fn name(&self) -> Option<String> {
-        let name = || match self.file.to_str() {
-            Some(name) if !files::is_stream(self.file, 0) => name.to_string(),
-            // in quotes, with escapes for what is no text
-            _ => files::named(self.file),
-        };
-        self.is_named.then(name)
+        self.is_named.then(|| files::plainly_named(self.file))
     }
 
     fn print_lines(&self, lines: impl Display) -> Result<(), Failure> {

@@ -1,6 +1,7 @@
 //! `srci`: SRCI payloads at a terminal. The jobs are those of the proved library; here are the words around them.
 mod arguments;
 mod commands;
+mod edit;
 mod facts;
 mod failure;
 mod files;
@@ -12,6 +13,7 @@ mod output;
 mod parts;
 mod place;
 mod rows;
+mod sheet;
 mod system;
 mod table;
 mod text;

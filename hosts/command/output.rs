@@ -25,7 +25,7 @@ enum To {
 
 impl Output {
     /// Finds where OUT leads. A file that is there is replaced only where that is asked for.
-    pub fn open(out: &OsStr, is_forced: bool) -> Result<Output, Failure> {
+    fn open(out: &OsStr, is_forced: bool) -> Result<Output, Failure> {
         if files::is_stream(out, 1) {
             files::standard_output().map_err(files::not_printed)?;
             return Ok(Output(To::Standard { is_forced }));
@@ -34,6 +34,23 @@ impl Output {
         let old = place.hold(out, is_forced).map_err(not_written(out))?;
         let out = out.to_os_string();
         Ok(Output(To::File { out, place, old }))
+    }
+
+    /// Reads FILE and finds OUT. A file is read after OUT is locked, since both can be one. A stream is read before,
+    /// since others would wait for the lock as long as nothing comes.
+    pub fn open_and_read<T>(
+        out: &OsStr,
+        is_forced: bool,
+        file: &OsStr,
+        read: impl FnOnce() -> Result<T, Failure>,
+    ) -> Result<(T, Output), Failure> {
+        if files::is_file(file) {
+            let out = Output::open(out, is_forced)?;
+            Ok((read()?, out))
+        } else {
+            let read = read()?;
+            Ok((read, Output::open(out, is_forced)?))
+        }
     }
 
     pub fn write(self, bytes: &[u8]) -> Result<(), Failure> {

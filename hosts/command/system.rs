@@ -266,20 +266,25 @@ struct Action {
     restorer: usize,
 }
 
+/// Has a signal handled, unless it is ignored, and answers what it did before.
+fn handle(signal: c_int, handler: extern "C" fn(c_int), flags: c_int) -> io::Result<Action> {
+    // SAFETY: all zeros are an action, both are valid for the calls, and the handlers here make none but safe calls
+    unsafe {
+        let mut before: Action = mem::zeroed();
+        done(sigaction(signal, ptr::null(), &mut before))?;
+        if before.handler != IGNORED {
+            let mut action: Action = mem::zeroed();
+            action.handler = handler as usize;
+            action.flags = flags;
+            done(sigaction(signal, &action, ptr::null_mut()))?;
+        }
+        Ok(before)
+    }
+}
+
 /// From now on this signal removes the temporary file before it ends the command, unless it is ignored.
 fn remove_before(signal: c_int) -> io::Result<()> {
-    // SAFETY: all zeros are an action, both are valid for the calls, and the handler makes none but safe calls
-    unsafe {
-        let mut action: Action = mem::zeroed();
-        done(sigaction(signal, ptr::null(), &mut action))?;
-        if action.handler == IGNORED {
-            return Ok(());
-        }
-        action = mem::zeroed();
-        action.handler = remove_and_end as extern "C" fn(c_int) as usize;
-        action.flags = ONCE;
-        done(sigaction(signal, &action, ptr::null_mut()))
-    }
+    handle(signal, remove_and_end, ONCE).map(|_| ())
 }
 
 extern "C" fn remove_and_end(signal: c_int) {
@@ -288,6 +293,27 @@ extern "C" fn remove_and_end(signal: c_int) {
     // SAFETY: it can be called in a handler
     unsafe { raise(signal) };
 }
+
+// ---- a program that has the terminal
+
+/// The signals that keys of a terminal send to all who wait there: INT and QUIT.
+const KEYS: [c_int; 2] = [2, 3];
+const RESTART: c_int = 0x1000_0000;
+
+/// Waits for a program that has the terminal. Until it ends, the keys are meant for it, and do not end the command.
+pub fn leave_keys_to<T>(program: impl FnOnce() -> io::Result<T>) -> io::Result<T> {
+    // signals that were ignored would be by the program, too; those that are handled are not
+    let [first, second] = KEYS.map(|signal| handle(signal, pass_over, RESTART));
+    let before = [first?, second?];
+    let ended = program();
+    for (signal, action) in KEYS.into_iter().zip(before) {
+        // SAFETY: it is the action that the signal had
+        done(unsafe { sigaction(signal, &action, ptr::null_mut()) })?;
+    }
+    ended
+}
+
+extern "C" fn pass_over(_: c_int) {}
 
 // ---- standard streams
 

@@ -34,6 +34,32 @@ pub fn shows(bytes: &[u8]) -> bool {
     std::str::from_utf8(bytes).is_ok_and(|text| text.chars().all(is_shown))
 }
 
+/// The beginning of a line of a sheet, to be shown beside a message. Tabs and the sheet's own escapes stay as they are.
+pub struct Line<'a>(pub &'a [u8]);
+
+/// Characters of a line that are shown.
+const MOST_SHOWN: usize = 160;
+
+impl Display for Line<'_> {
+    fn fmt(&self, f: &mut Formatter) -> Result {
+        // a character has four bytes at most
+        let beginning = &self.0[..self.0.len().min(4 * (MOST_SHOWN + 1))];
+        let beginning = String::from_utf8_lossy(beginning);
+        let mut rest = beginning.chars();
+        for c in rest.by_ref().take(MOST_SHOWN) {
+            match c {
+                '\t' => f.write_char(c)?,
+                c if is_unseen(c) => write!(f, "\\u{{{:x}}}", c as u32)?,
+                c => f.write_char(c)?,
+            }
+        }
+        match rest.next() {
+            Some(_) => f.write_str(" .."),
+            None => Ok(()),
+        }
+    }
+}
+
 /// A text as a field of a tab-parted line.
 pub struct Field<'a>(pub &'a str);
 

@@ -31,6 +31,17 @@ def test_every_buffer():
         expect_jobs(buffer)
 
 
+def test_every_buffer_of_a_sheet():
+    whole = sheet(*PARTS)
+    with tempfile.TemporaryFile() as file:
+        file.write(whole)
+        file.flush()
+        with mmap.mmap(file.fileno(), 0, access=mmap.ACCESS_READ) as mapped:
+            assert srci.from_sheet(mapped) == PAYLOAD
+    for buffer in (whole, bytearray(whole), memoryview(whole), memoryview(b"abc" + whole)[3:], array("B", whole)):
+        assert srci.from_sheet(buffer) == PAYLOAD
+
+
 def expect_jobs(buffer):
     assert srci.list(buffer) == listing(*PARTS)
     assert srci.card(buffer) == card(*PARTS)
@@ -45,7 +56,8 @@ def expect_jobs(buffer):
 
 
 def test_not_a_buffer():
-    for job in (srci.read, srci.listing, srci.public_copy, srci.card, srci.facts, srci.names, srci.to_sheet):
+    jobs = srci.read, srci.listing, srci.public_copy, srci.card, srci.facts, srci.names, srci.to_sheet, srci.from_sheet
+    for job in jobs:
         raises(TypeError, job, "a text")
         raises(BufferError, job, memoryview(PAYLOAD)[::2])
 
@@ -74,6 +86,7 @@ def test_an_interrupted_call_gives_its_buffer_back():
 
 
 PAIRS = payload(arguments(*[(b"", b"")] * 1_000_000))
+SHEET = b"arguments\n" + b"pair\t\t\n" * 1_000_000
 PATIENCE = 30  # seconds
 
 
@@ -129,6 +142,7 @@ def test_a_call_on_bytes_releases_pythons_lock():
         lambda: srci.listing(PAIRS),
         lambda: srci.public_copy(PAIRS),
         lambda: srci.to_sheet(PAIRS),
+        lambda: srci.from_sheet(SHEET),
         lambda: srci.facts(PAIRS),
         lambda: srci.read(PAIRS),
         lambda: srci.write(PAIRS, b"", rows),
@@ -145,6 +159,7 @@ def test_a_call_on_what_may_change_keeps_pythons_lock():
         lambda: srci.listing(memoryview(lent)),
         lambda: srci.public_copy(memoryview(PAIRS)),
         lambda: srci.to_sheet(lent),
+        lambda: srci.from_sheet(memoryview(SHEET)),
         lambda: srci.facts(lent),
         lambda: srci.read(Changing(PAIRS)),
         lambda: srci.write(lent, b"", rows),
@@ -192,8 +207,8 @@ ODD = [b"", b"\\", b"\t", b"\n", b"\\t\\n", b"\n\t\\a b\\\t\n", b"a\r\nb\r"]
 ODD += ["\x01\x7f\x85\u202e\u2028é\U0001f600".encode()]
 
 
-def test_sheets():
-    parts = [
+def odd_parts():
+    return [
         contents(*ODD, field=2**32 - 1),
         packed(bytes(range(256)), 2**32 - 1, 2**32 - 1, field=7),
         names(*[(text, 10**place) for place, text in enumerate(ODD)]),
@@ -205,10 +220,22 @@ def test_sheets():
         names(),
         arguments(),
     ]
+
+
+def test_sheets():
+    parts = odd_parts()
     assert srci.to_sheet(payload(*parts)) == sheet(*parts)
     for part in parts:
         assert srci.to_sheet(payload(part)) == sheet(part)
     assert srci.to_sheet(payload()) == b""
+
+
+def test_payloads_of_sheets():
+    parts = odd_parts()
+    assert srci.from_sheet(sheet(*parts)) == payload(*parts)
+    for part in parts:
+        assert srci.from_sheet(sheet(part)) == payload(part)
+    assert srci.from_sheet(b"") == payload()
 
 
 def test_an_output_for_a_sheet():
@@ -220,6 +247,49 @@ def test_an_output_for_a_sheet():
         stored = whole if number == 0 else b""
         assert output == stored + b"\xa5" * (len(output) - len(stored))
     assert _calls.to_sheet(payload(), bytearray()) == (0, 0)
+
+
+def test_an_output_for_a_sheets_payload():
+    given = sheet(*PARTS)
+    for lent in range(len(PAYLOAD) + 3):
+        output = bytearray(b"\xa5" * (len(PAYLOAD) + 8))
+        number, second = _calls.from_sheet(given, memoryview(output)[:lent])
+        assert (number, second) == (0 if lent >= len(PAYLOAD) else 19, len(PAYLOAD))
+        stored = PAYLOAD if number == 0 else b""
+        assert output == stored + b"\xa5" * (len(output) - len(stored))
+    output = bytearray(b"\xa5" * 100)
+    assert _calls.from_sheet(given[:-1], output) == (20, given.count(b"\n"))
+    assert output == b"\xa5" * 100
+
+
+# Lines at fault behind two that are not.
+FAULTY = [
+    (20, 3, b"\n"),
+    (20, 3, b"pair\tT\tps_6_0"),
+    (20, 3, b"name\t1\ta\n"),
+    (20, 3, b"pair\tT\n"),
+    (20, 3, b"names\r\n"),
+    (20, 3, b"names\t\n"),
+    (20, 3, b"contents\t01\n"),
+    (20, 3, b"contents\t4294967296\n"),
+    (20, 3, b"packed\t0\t1\t2\tFF\n"),
+    (20, 3, b"unknown\t2\t\n"),
+    (20, 3, b"unknown\t3\t0000\n"),
+    (20, 3, b"pair\t\\x\t\n"),
+    (20, 4, b"names\nname\t1\n"),
+    (11, 0, b"pair\tT\t\xff\nmalformed\n"),
+    (12, 0, b"pair\t\0\tps_6_0\nmalformed\n"),
+    (18, 0, b"names\nname\t1\t" + b"n" * 65_516 + b"\n"),
+    (18, 0, b"names\n" * 65_535),
+]
+
+
+def test_refused_lines():
+    before = sheet(arguments((b"E", b"main")))
+    for number, second, line in FAULTY:
+        refused = raises(srci.Refused, srci.from_sheet, before + line)
+        assert (refused.number, refused.second) == (number, second), line[:80]
+    assert str(raises(srci.Refused, srci.from_sheet, b"\n")).endswith("(line: 1)")
 
 
 def test_refused_sheets():
@@ -300,6 +370,15 @@ def test_the_longest_sheet():
     whole, pairs = most_pairs()
     assert srci.to_sheet(whole) == b"arguments\n" + b"pair\t\t\n" * pairs
     raises(srci.Refused, srci.to_sheet, whole + b"a")
+
+
+def test_the_payload_of_the_longest_sheet():
+    whole, pairs = most_pairs()
+    longest = b"arguments\n" + b"pair\t\t\n" * pairs
+    assert srci.from_sheet(longest) == whole
+    assert raises(srci.Refused, srci.from_sheet, longest + b"pair\t\t\n").number == 18
+    refused = raises(srci.Refused, srci.from_sheet, longest + b"pair\t\n")
+    assert (refused.number, refused.second) == (20, pairs + 2)
 
 
 run_tests(globals())

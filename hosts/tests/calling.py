@@ -11,6 +11,11 @@ NOBODY = 65534
 _command = None
 
 
+def path():
+    """The command, for programs that call it themselves."""
+    return _command
+
+
 def start(*words, **options):
     return subprocess.Popen([_command, *words], **options)
 

@@ -45,8 +45,8 @@ MEANINGS = {
 }
 
 
-def is_refused(number, *words, **options):
-    fails(1, f": refused {number}, {REFUSALS[number - 1]}: ", *words, **options)
+def is_refused(number, *words, place="", **options):
+    fails(1, f"{place}: refused {number}, {REFUSALS[number - 1]}: ", *words, **options)
     fails(1, MEANINGS[number], *words, **options)
 
 
@@ -56,7 +56,7 @@ def stored_calls(job):
     for call, answer in zip(calls, answers):
         if call.startswith(f"{job} "):
             number, second, _, *stored = answer.split(" ")
-            yield bytes.fromhex(call.split(" ")[2]), int(number), bytes.fromhex("".join(stored))
+            yield bytes.fromhex(call.split(" ")[2]), int(number), int(second), bytes.fromhex("".join(stored))
 
 
 def test_the_sample(folder):
@@ -232,7 +232,7 @@ def test_rows(folder):
 def test_public_copies(folder):
     file, out = folder / "payload", folder / "out"
     tried = 0
-    for data, number, copy in stored_calls("public_copy"):
+    for data, number, _, copy in stored_calls("public_copy"):
         if number == 0:
             file.write_bytes(data)
             prints("", "public-copy", file, out, "--force")
@@ -245,12 +245,13 @@ def test_public_copies(folder):
 def test_stored_sheets(folder):
     file, out = folder / "payload", folder / "out"
     accepted = refused = 0
-    for data, number, lines in stored_calls("to_sheet"):
+    for data, number, _, lines in stored_calls("to_sheet"):
         file.write_bytes(data)
         if number == 0:
             prints(lines, "sheet", file)
             prints("", "sheet", file, out, "--force")
             assert out.read_bytes() == lines
+            prints(data, "from-sheet", out, "-")
             accepted += 1
         elif number != 19:  # which the command answers itself
             is_refused(number, "sheet", file)
@@ -258,16 +259,37 @@ def test_stored_sheets(folder):
     assert accepted > 10 and refused > 50
 
 
+def test_stored_payloads_of_sheets(folder):
+    file, out = folder / "a.sheet", folder / "out"
+    accepted = refused = 0
+    for data, number, second, made in stored_calls("from_sheet"):
+        file.write_bytes(data)
+        if number == 0:
+            prints(made, "from-sheet", file, "-")
+            prints("", "from-sheet", file, out, "--force")
+            assert out.read_bytes() == made
+            prints(data, "sheet", out)
+            accepted += 1
+        elif number != 19:  # which the command answers itself
+            is_refused(number, "from-sheet", file, folder / "none", place=f"a.sheet:{second}" if number == 20 else "")
+            refused += 1
+    assert accepted > 10 and refused > 50
+    assert sorted(os.listdir(folder)) == ["a.sheet", "out"]
+
+
+PARTS_OF_EVERY_KIND = [
+    contents(UNSEEN.encode(), b"", b"\\n\n\\\\", field=2**32 - 1),
+    packed(b"\xff\x00closed", 2**32 - 1, 0, field=1),
+    unknown(0xFFFF, bytes(range(256))),
+    names((UNSEEN.encode(), 0), (b"sky.hlsl", 2**32 - 1)),
+    arguments((b"E", b"main"), (b"\t", b"\n"), (b"", b"")),
+    unknown(3),
+    names(),
+]
+
+
 def test_sheets(folder):
-    parts = [
-        contents(UNSEEN.encode(), b"", b"\\n\n\\\\", field=2**32 - 1),
-        packed(b"\xff\x00closed", 2**32 - 1, 0, field=1),
-        unknown(0xFFFF, bytes(range(256))),
-        names((UNSEEN.encode(), 0), (b"sky.hlsl", 2**32 - 1)),
-        arguments((b"E", b"main"), (b"\t", b"\n"), (b"", b"")),
-        unknown(3),
-        names(),
-    ]
+    parts = PARTS_OF_EVERY_KIND
     file, out = folder / "payload", folder / "out"
     file.write_bytes(payload(*parts))
     prints(sheet(*parts), "sheet", file)
@@ -285,6 +307,57 @@ def test_sheets(folder):
         # a line for each row, which have a header line
         lines, rows = (run(command, "-", data=case.data)[0].count(b"\n") for command in ("sheet", "rows"))
         assert lines == rows - 1
+
+
+def test_payloads_of_sheets(folder):
+    parts = PARTS_OF_EVERY_KIND
+    file, out = folder / "a.sheet", folder / "out"
+    file.write_bytes(sheet(*parts))
+    for words in ([file, "-"], [file, "/dev/stdout"], ["-", "-"], ["/dev/stdin", "-", "--force"]):
+        prints(payload(*parts), "from-sheet", *words, data=sheet(*parts))
+    prints("", "from-sheet", file, out)
+    assert out.read_bytes() == payload(*parts)
+    fails(3, "--force", "from-sheet", file, out)
+    # no lines, no sections
+    prints("", "from-sheet", "/dev/null", out, "--force")
+    assert out.read_bytes() == payload()
+    # in place of the sheet itself, which is read before
+    prints("", "from-sheet", file, file, "--force")
+    assert file.read_bytes() == payload(*parts)
+    for case in line_cases():
+        prints(case.data, "from-sheet", "-", "-", data=run("sheet", "-", data=case.data)[0])
+
+
+def said_of(*lines, file="-", **options):
+    """What is said of a sheet whose last line is at fault."""
+    out, err, status = run("from-sheet", file, "-", data=b"".join(lines), **options)
+    assert (out, status) == (b"", 1)
+    return err.decode()
+
+
+def test_lines_of_refusals(folder):
+    bad = "refused 20, bad line: A line of a sheet is malformed or misplaced.\n"
+    before = sheet(names((b"a", 5)))
+    assert said_of(before, b"pair\tE\tmain\n") == f"srci: standard input:3: {bad}    pair\tE\tmain\n"
+    assert said_of(before, b"\n", b"names\n") == f"srci: standard input:3: {bad}    (it is empty)\n"
+    assert said_of(before, b"names") == f"srci: standard input:3: {bad}    names (no newline closes it)\n"
+    # by the file's name as it was given, which editors and terminals open at the line
+    for name, told in [("sky.sheet", "sky.sheet"), ("a\x1b\n.sheet", "a\\u{1b}\\n.sheet"), (b"\xff", '"\\\\xFF"')]:
+        pathlib.Path(os.fsdecode(os.path.join(os.fsencode(folder), os.fsencode(name)))).write_bytes(before * 5 + b"x\n")
+        assert said_of(file=name, cwd=folder) == f"srci: {told}:11: {bad}    x\n"
+    # what does not show in a line, or is no text, does nothing to a terminal; what the sheet escapes stays
+    line = "name\t5\ta\\\\b\\t\x1b[2J\r\x7f\u202eé\U0001f600"
+    shown = "name\t5\ta\\\\b\\t\\u{1b}[2J\\u{d}\\u{7f}\\u{202e}é\U0001f600"
+    assert said_of(line.encode() + b"\n") == f"srci: standard input:1: {bad}    {shown}\n"
+    assert said_of(b"\xff\x00a\n") == f"srci: standard input:1: {bad}    \ufffd\\u{{0}}a\n"
+    # and the beginning of a long one is enough
+    for letter in ("a", "é", "\U0001f600"):
+        for count in (160, 161, 1_000_000):
+            shown = letter * 160 + (" .." if count > 160 else "")
+            assert said_of(letter.encode() * count + b"\n") == f"srci: standard input:1: {bad}    {shown}\n"
+    # without a line of its own the file is named
+    for number, line in [(11, b"name\t1\t\xff\n"), (12, b"name\t1\t\0\n"), (18, b"name\t1\t" + b"n" * 65_516 + b"\n")]:
+        assert said_of(before, line).startswith(f"srci: standard input: refused {number}, {REFUSALS[number - 1]}: ")
 
 
 def test_rename(folder):
@@ -365,6 +438,8 @@ def test_memory(folder):
     # 92 MB beside the payload's 25
     prints("", "sheet", file, folder / "sheet", preexec_fn=limit_memory)
     assert (folder / "sheet").read_bytes() == b"arguments\n" + b"pair\t\t\n" * pairs + sheet(old)
+    prints("", "from-sheet", folder / "sheet", folder / "back", preexec_fn=limit_memory)
+    assert (folder / "back").read_bytes() == file.read_bytes()
     new = payload(arguments(*[(b"", b"")] * pairs), names((b"new", 1)))
     prints("", "rename", file, "old", "new", folder / "out", preexec_fn=limit_memory)
     assert (folder / "out").read_bytes() == new
@@ -391,6 +466,8 @@ def test_the_limit(folder):
     assert out.read_bytes() == payload(contents(b""))
     prints("", "sheet", file, folder / "sheet")
     assert (folder / "sheet").read_bytes() == sheet(part)
+    prints("", "from-sheet", folder / "sheet", out, "--force")
+    assert out.read_bytes() == payload(part)
     assert len(run("rows", file)[0]) > 26_214_351
     with file.open("ab") as more:
         more.write(b"\0")
@@ -399,6 +476,16 @@ def test_the_limit(folder):
     is_refused(1, "check", "-", data=file.read_bytes())
     with open("/dev/zero", "rb") as endless:
         is_refused(1, "check", "-", stdin=endless)
+    # a sheet is refused by its lines, and only then for its length
+    pairs = (LIMIT - 28) // 2
+    longest = b"arguments\n" + b"pair\t\t\n" * pairs
+    assert len(longest) == LIMIT * 7 // 2 - 88
+    for number, place, more in [(18, "", b"pair\t\t\n"), (20, f"input:{pairs + 2}", b"pair\t\n"),
+                                (18, "", b"pair\t\t\n" * 20), (20, f"input:{pairs + 2}", b"pair\t\n" * 20),
+                                (18, "", b"pair\t\t" + b"a" * 100 + b"\n")]:
+        is_refused(number, "from-sheet", "-", out, "--force", data=longest + more, place=place)
+    with open("/dev/zero", "rb") as endless:
+        is_refused(18, "from-sheet", "-", out, "--force", stdin=endless)
     # a name at the limit, so that what is written is as long as it may be
     names_and_rest = payload(names((b"old", 1)), unknown(3, b"u" * (LIMIT - 8 - 40 - 8)))
     assert len(names_and_rest) == LIMIT

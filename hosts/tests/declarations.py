@@ -66,7 +66,7 @@ def symbols(option, kind):
 
 rattle = functions(r'pub extern "C" fn (\w+)(?:<\'a>)?\(([^)]*)\) -> u32', text("crates/srci/src/lib.rt"))
 entries = {name: list(passed(parameters)) for name, parameters in rattle.items()}
-assert len(entries) == 6
+assert len(entries) == 7
 
 header = re.sub(r"/\*.*?\*/", "", text("hosts/c/srci.h"), flags=re.S)
 in_c = {name: [c + name for name, (c, _, _) in words] for name, words in entries.items()}
@@ -128,4 +128,4 @@ for path, kind in [("refusal", "enum Refusal"), ("facts", "struct Section<'a>")]
 sources = "".join(text(f"hosts/rust/src/{name}.rs") for name in ("lib", "lent", "facts"))
 answering = re.findall(r"((?:^///.*\n)*)^pub fn (\w+)\([^)]*\) -> Result", sources, re.M)
 same("tell their errors", [name for told, name in answering if "/// # Errors\n" in told], [name for _, name in answering])
-assert len(answering) == 14
+assert len(answering) == 16

@@ -49,9 +49,10 @@ static void expect_inside(uint32_t *number)
     *number = 0;
 }
 
-/* The lines of the payload, whose texts and bytes have nothing in them. */
+/* The lines of the payload, whose texts and bytes have nothing in them, and back. */
 static void expect_sheet(size_t length)
 {
+    static uint8_t back[sizeof payload];
     static const char sheet[] = "contents\t0\ncontent\t\npacked\t0\t2\t900\t\nnames\nname\t5\t\narguments\npair\t\t\n"
                                 "unknown\t7\t\n";
     size_t needed = sizeof sheet - 1;
@@ -61,6 +62,14 @@ static void expect_sheet(size_t length)
     assert(output[0] == 0xA5);
     assert(srci_to_sheet(payload, length, output, needed, &second) == 0 && second == needed);
     assert(memcmp(output, sheet, needed) == 0 && output[needed] == 0xA5);
+    assert(srci_from_sheet(output, needed, NULL, 0, &second) == SRCI_NO_ROOM && second == length);
+    memset(back, 0xA5, sizeof back);
+    assert(srci_from_sheet(output, needed, back, length - 1, &second) == SRCI_NO_ROOM && second == length);
+    assert(back[0] == 0xA5);
+    assert(srci_from_sheet(output, needed, back, length, &second) == 0 && second == length);
+    assert(memcmp(back, payload, length) == 0 && back[length] == 0xA5);
+    /* without the newline at its end the last of the eight lines is not closed */
+    assert(srci_from_sheet(output, needed - 1, NULL, 0, &second) == SRCI_BAD_LINE && second == 8);
 }
 
 static void write_from(uint32_t side, size_t length)
@@ -97,6 +106,10 @@ int main(void)
     /* without sections there are no lines */
     second = 1;
     assert(srci_to_sheet(output, 8, NULL, 0, &second) == 0 && second == 0);
+    assert(srci_from_sheet(NULL, 0, NULL, 0, &second) == SRCI_NO_ROOM && second == 8);
+    memset(output, 0xA5, sizeof output);
+    assert(srci_from_sheet(NULL, 0, output, 8, &second) == 0 && second == 8);
+    assert(memcmp(output, "\10\0\0\0\0\0\0\0\245", 9) == 0);
 
     size_t length = fread(payload, 1, sizeof payload, stdin);
     assert(srci_read(payload, length, NULL, 0, &second) == SRCI_NO_ROWS && second == ROWS);

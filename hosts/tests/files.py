@@ -41,7 +41,9 @@ def test_an_output_that_exists(folder):
     file.write_bytes(SAMPLE)
     out.write_bytes(b"old")
     out.chmod(0o640)
-    for words in (["public-copy", file], ["rename", file, "a", "b"], ["sheet", file]):
+    lines = folder / "a.sheet"
+    lines.write_bytes(SHEET)
+    for words in (["public-copy", file], ["rename", file, "a", "b"], ["sheet", file], ["from-sheet", lines]):
         fails(3, "--force", *words, out)
         assert out.read_bytes() == b"old"
     if can_be_others():
@@ -51,6 +53,9 @@ def test_an_output_that_exists(folder):
     assert out.read_bytes() == COPY and stat.S_IMODE(out.stat().st_mode) == 0o640 and out.stat().st_uid == owner
     prints("", "sheet", file, out, "--force")
     assert out.read_bytes() == SHEET and stat.S_IMODE(out.stat().st_mode) == 0o640 and out.stat().st_uid == owner
+    prints("", "from-sheet", lines, out, "--force")
+    assert out.read_bytes() == SAMPLE and stat.S_IMODE(out.stat().st_mode) == 0o640 and out.stat().st_uid == owner
+    lines.unlink()
     link = folder / "link"
     link.symlink_to("out")
     out.write_bytes(b"old")
@@ -176,6 +181,7 @@ def test_streams_that_are_closed(folder):
     for name in ("-", "/dev/stdin", "/dev/fd/0", "/proc/self/fd/0"):
         fails(3, "cannot read standard input: it is closed", "card", name, **closed(0))
     calls = [["--help"], ["rename", file, "a", "b", "-"], ["sheet", file], ["sheet", file, "-"]]
+    calls += [["from-sheet", "/dev/null", "-"]]
     calls += [[command, file] for command in ("card", "facts", "list", "rows", "check")]
     calls += [["public-copy", file, name, "--force"] for name in ("-", "/dev/stdout", "/dev/fd/1", "/proc/self/fd/1")]
     for call in calls:
@@ -214,7 +220,8 @@ def test_a_terminal(folder):
     file.write_bytes(SAMPLE)
     terminal, end = pty.openpty()
     tty.setraw(end)
-    for words in (["public-copy", file, "-"], ["rename", file, "a", "b", "-"], ["public-copy", file, "/dev/stdout"]):
+    for words in (["public-copy", file, "-"], ["rename", file, "a", "b", "-"], ["public-copy", file, "/dev/stdout"],
+                  ["from-sheet", "/dev/null", "-"]):
         fails(3, "terminal", *words, stdout=end)
         assert select.select([terminal], [], [], 0)[0] == []
     for shown, words in [(COPY, ["public-copy", file, "-"]), (RENAMED, ["rename", file, "a", "b", "/dev/stdout"])]:
@@ -313,6 +320,23 @@ def test_a_sheet_is_written_whole_or_not_at_all(folder):
     fails(3, "--force", "sheet", file, file)
     prints("", "sheet", file, file, "--force")
     assert file.read_bytes() == SHEET
+
+
+def test_a_sheets_payload_is_written_whole_or_not_at_all(folder):
+    file, out, pairs = folder / "a.sheet", folder / "out", b"arguments\n" + b"pair\tE\tmain\n" * 250_000
+    for old in (None, b"old"):
+        put(out, old)
+        file.write_bytes(pairs)
+        _, _, status = run("from-sheet", file, out, "--force", preexec_fn=limit_files)
+        assert status == -signal.SIGXFSZ and sorted(os.listdir(folder)) == ["a.sheet", "out"][: 2 if old else 1]
+        # a refused sheet leaves what is there
+        file.write_bytes(pairs[:-1])
+        fails(1, f":{250_001}: refused 20", "from-sheet", file, out, "--force")
+        assert sorted(os.listdir(folder)) == ["a.sheet", "out"][: 2 if old else 1]
+    assert out.read_bytes() == b"old"
+    # and one that is not there
+    fails(3, "cannot read", "from-sheet", folder / "none", out, "--force")
+    fails(3, "cannot read", "from-sheet", folder, out, "--force")
 
 
 def test_a_reader_that_has_seen_enough(folder):

@@ -142,7 +142,7 @@ def check_soname(root):
     assert re.findall(r"\(SONAME\).*\[(.*)\]", told) == [SONAME], told
     assert re.findall(r"\(NEEDED\).*\[(.*)\]", told) == ["libc.so.6"], told
     symbols = re.findall(r" [A-Z] ([a-z]\w+)", run("nm", "-D", "--defined-only", library).decode())
-    jobs = ["card", "list", "public_copy", "read", "to_sheet", "write"]
+    jobs = ["card", "from_sheet", "list", "public_copy", "read", "to_sheet", "write"]
     assert sorted(symbols) == [f"srci_{job}" for job in jobs], symbols
 
 

@@ -11,6 +11,7 @@ import pathlib
 import re
 import subprocess
 import sys
+import tempfile
 import textwrap
 
 import srci
@@ -107,6 +108,13 @@ sheet = subprocess.run(
 ).stdout
 assert f"\n\n{indented(sheet)}\n" in (ROOT / "hosts/README.md").read_text()
 print("ok: the sheet in hosts/README.md")
+
+with tempfile.TemporaryDirectory() as folder:
+    pathlib.Path(folder, "sky.sheet").write_text("names\n" * 11 + "name\tsky.hlsl\n")
+    words = [BUILT / "bin/srci", "from-sheet", "sky.sheet", "-"]
+    refused = subprocess.run(words, capture_output=True, text=True, cwd=folder)
+assert refused.returncode == 1 and f"{indented(refused.stderr)}\n" in (ROOT / "hosts/README.md").read_text()
+print("ok: the refused line in hosts/README.md")
 
 told, shown = examples("hosts/README.md", "python")
 said = {"srci": srci, "payload": PAYLOAD.read_bytes()}

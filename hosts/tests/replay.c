@@ -114,6 +114,9 @@ static void replay(char *line)
     } else if (strcmp(job, "to_sheet") == 0) {
         uint32_t number = srci_to_sheet(from, length, to, lent, &second);
         print_output(number, second, output);
+    } else if (strcmp(job, "from_sheet") == 0) {
+        uint32_t number = srci_from_sheet(from, length, to, lent, &second);
+        print_output(number, second, output);
     }
 }
 

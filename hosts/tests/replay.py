@@ -19,6 +19,7 @@ JOBS = {
     "public_copy": _calls.public_copy,
     "card": _calls.card,
     "to_sheet": _calls.to_sheet,
+    "from_sheet": _calls.from_sheet,
 }
 
 

@@ -57,6 +57,7 @@ fn replay_lent(job: &str, lent: usize, payload: &[u8], edit: &[u8], rows: &[u32]
         "public_copy" => lent::public_copy(payload, &mut output[..lent]),
         "card" => lent::card(payload, &mut output[..lent]),
         "to_sheet" => lent::to_sheet(payload, &mut output[..lent]),
+        "from_sheet" => lent::from_sheet(payload, &mut output[..lent]),
         _ => panic!("no job {job}"),
     };
     print_output(answer, &output);
@@ -72,6 +73,7 @@ fn replay_owned(job: &str, lent: usize, payload: &[u8], edit: &[u8], rows: &[u32
         "public_copy" => srci::public_copy(payload),
         "card" => srci::card(payload).map(String::into_bytes),
         "to_sheet" => srci::to_sheet(payload),
+        "from_sheet" => srci::from_sheet(payload),
         _ => panic!("no job {job}"),
     };
     let mut output = [UNTOUCHED_BYTE; BYTES];

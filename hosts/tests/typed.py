@@ -29,6 +29,7 @@ def shown(payload: bytes) -> str:
         facts = srci.facts(array("B", payload), most=None)
         copy: bytes = srci.public_copy(payload)
         sheet: bytes = srci.to_sheet(bytearray(payload))
+        back: bytes = srci.from_sheet(memoryview(sheet))
         rows: srci.Rows = srci.read(copy)
         written: bytes = srci.write(copy, b"", [row._replace(side=srci.Side.PAYLOAD) for row in rows])
     except srci.Refused as refused:
@@ -36,7 +37,7 @@ def shown(payload: bytes) -> str:
     told = [section.kind + "".join(section.names) for section in facts.sections if section.count > facts.left_out]
     pairs = [pair.name + pair.value for section in facts.sections for pair in section.pairs]
     texts: list[typing.Optional[str]] = [row.text(copy) for row in rows[1:] if row.tag == srci.Tag.NAME]
-    made = f"{left_out}{texts}{written!r}{sheet!r}"
+    made = f"{left_out}{texts}{written!r}{sheet!r}{back!r}"
     return card + srci.list(payload) + listing + " ".join([*names, *told, *pairs]) + made
 
 
@@ -45,6 +46,7 @@ def mistakes() -> None:
     srci.card("a text")  # type: ignore[arg-type]
     srci.facts(b"", most="all")  # type: ignore[arg-type]
     srci.to_sheet(b"").encode()  # type: ignore[attr-defined]
+    srci.from_sheet("names\n")  # type: ignore[arg-type]
     srci.read(b"")[0].text(b"").upper()  # type: ignore[union-attr]
 
 

@@ -25,6 +25,8 @@ COMMANDS = {
     "public-copy": "FILE OUT [--force]",
     "rename": "FILE OLD NEW OUT [--force] [--merge] [--empty]",
     "sheet": "FILE [OUT] [--force]",
+    "from-sheet": "SHEET OUT [--force]",
+    "edit": "FILE [OUT] [--force]",
     "check": "FILE.. [--named]",
 }
 GENERAL = ["--help", "--version", "--sample", "--man-page", "--bash-completion"]
@@ -84,7 +86,8 @@ def test_wrong_words(folder):
 
 def test_words_that_are_mistyped(folder):
     for word, meant in [("crad", "card"), ("lst", "list"), ("public_copy", "public-copy"), ("Check", "check"),
-                        ("--verison", "--version"), ("hepl", "help"), ("shet", "sheet")]:
+                        ("--verison", "--version"), ("hepl", "help"), ("shet", "sheet"),
+                        ("from_sheet", "from-sheet"), ("eidt", "edit")]:
         fails(2, f"did you mean '{meant}'?", word, "-")
     fails(2, "did you mean '--force'?", "rename", "--froce", "-", "a", "b", "-")
     fails(2, "a word after -- is no option", "rename", "-", "a", "-name.hlsl", "-")
@@ -256,8 +259,9 @@ def test_memory_at_a_terminal(folder):
 
 
 def test_what_is_said_of_secrecy(folder):
-    words = " ".join(printed("help", "sheet").split())
-    assert "does not cover the sheet: it shows everything that the payload holds, packed and unknown bytes too" in words
+    for command, what in [("sheet", "the sheet"), ("edit", "it")]:
+        words = " ".join(printed("help", command).split())
+        assert f"does not cover {what}: it shows everything that the payload holds, packed and unknown bytes too" in words
 
 
 def completed(script, *words):

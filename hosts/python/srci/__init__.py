@@ -9,6 +9,7 @@ r"""SRCI payloads of compiled shaders, which carry source files and compiler arg
     read(payload)                all that is in a payload, as rows
     write(payload, edit, rows)   a payload made of rows
     to_sheet(payload)            all that is in a payload, as lines for a text editor
+    from_sheet(sheet)            a payload made of such lines
 
     >>> import srci
     >>> payload = bytes.fromhex(
@@ -22,7 +23,7 @@ r"""SRCI payloads of compiled shaders, which carry source files and compiler arg
     >>> names, left_out
     (('a',), 0)
 
-What strangers post is refused where it is no payload; all of these but write then raise Refused:
+What strangers post is refused where it is no payload; all of these but write and from_sheet then raise Refused:
 
     >>> try:
     ...     shown = srci.card(b"GIF89a")
@@ -35,20 +36,20 @@ A card, names or facts of the longest payload, of 25 MB, take some tenths of a s
 
     card = await asyncio.to_thread(srci.card, payload)
 
-A payload, and an edit text, is any object with a buffer of contiguous bytes. It is not copied, and must not change
+A payload, an edit text or a sheet is any object with a buffer of contiguous bytes. It is not copied, and must not change
 during a call: a job stores by what it has checked before. Where it is bytes, which cannot change, a call releases
 Python's lock, and other threads go on. For anything else, as a bytearray, a memoryview or an mmap, it keeps the lock,
 so that no other thread's Python code changes it; that keeps out neither what fills a buffer without the lock, as
 readinto and recv_into do, nor another process, nor anything in a Python without that lock. Lend bytes, or a buffer that
 is filled.
 
-The six jobs card, listing, public_copy, read, write and to_sheet are done by libsrci, whose every function is proved:
-whatever bytes and rows come, each call ends, stays inside its buffers, and answers what its definition gives. This
-package finds the sizes that a job needs, puts names to the numbers, and tells facts from the public copy. It is tested,
-and not itself proved.
+The seven jobs card, listing, public_copy, read, write, to_sheet and from_sheet are done by libsrci, whose every function
+is proved: whatever bytes and rows come, each call ends, stays inside its buffers, and answers what its definition gives.
+This package finds the sizes that a job needs, puts names to the numbers, and tells facts from the public copy. It is
+tested, and not itself proved.
 """
 from . import _tables
-from ._jobs import card, listing, public_copy, read, to_sheet, write
+from ._jobs import card, from_sheet, listing, public_copy, read, to_sheet, write
 from ._refused import REFUSALS, Refused
 from ._rows import Row, Rows, Side
 from ._shown import Facts, Names, Pair, Section, facts, first_lines, names
@@ -70,6 +71,7 @@ __all__ = [
     "card",
     "facts",
     "first_lines",
+    "from_sheet",
     "listing",
     "names",
     "public_copy",

@@ -1,11 +1,11 @@
 """The entry points of libsrci.so, declared for Python here alone, and calls of them on lent buffers.
 
 Each function here returns the call's two numbers: 0 and the rows or bytes stored, or the refusal's number and its
-second number. A payload, an edit text, rows and an output are any objects with a buffer: bytes, bytearray, memoryview,
-mmap, array. They are lent as they are, and never copied.
+second number. A payload, an edit text, a sheet, rows and an output are any objects with a buffer: bytes, bytearray,
+memoryview, mmap, array. They are lent as they are, and never copied.
 
-Python's lock is released where payload and edit text are bytes, which nobody can change. So rows and an output must be
-the caller's own: nobody else may write to them during a call.
+Python's lock is released where payload, edit text and sheet are bytes, which nobody can change. So rows and an output
+must be the caller's own: nobody else may write to them during a call.
 """
 from __future__ import annotations
 
@@ -56,6 +56,7 @@ _srci_list = _Entry("srci_list", 2)  # payload, output
 _srci_public_copy = _Entry("srci_public_copy", 2)  # payload, output
 _srci_card = _Entry("srci_card", 2)  # payload, output
 _srci_to_sheet = _Entry("srci_to_sheet", 2)  # payload, output
+_srci_from_sheet = _Entry("srci_from_sheet", 2)  # sheet, output
 
 
 class _Buffer(ctypes.Structure):
@@ -149,3 +150,8 @@ def card(payload: Buffer, output: Buffer) -> tuple[int, int]:
 def to_sheet(payload: Buffer, output: Buffer) -> tuple[int, int]:
     """Stores the sheet of a payload."""
     return _call(_srci_to_sheet.reading(payload), _bytes(payload), _output(output))
+
+
+def from_sheet(sheet: Buffer, output: Buffer) -> tuple[int, int]:
+    """Stores the payload of a sheet."""
+    return _call(_srci_from_sheet.reading(sheet), _bytes(sheet), _output(output))

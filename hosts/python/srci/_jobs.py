@@ -1,4 +1,4 @@
-"""The six jobs of the library, each with an answer of the length that it needs."""
+"""The seven jobs of the library, each with an answer of the length that it needs."""
 from array import array
 from collections.abc import Iterable, Sequence
 from typing import TYPE_CHECKING, Callable, TypeVar
@@ -105,6 +105,25 @@ def to_sheet(payload: "Buffer") -> bytes:
     b'names\nname\t1\tsky.hlsl\n'
     """
     return bytes(_output(lambda output: _calls.to_sheet(payload, output)))
+
+
+def from_sheet(sheet: "Buffer") -> bytes:
+    r"""Makes the payload of a sheet, whose lines are those of `to_sheet`: the payload's sheet is this one.
+
+    A sheet is bytes, and a file of it is opened with "rb". Each line is closed by a newline, the last one too, and
+    nothing is passed over: neither an empty line nor a carriage return. The first line at fault is refused, with its
+    number from 1 as `second` where it is malformed or misplaced.
+
+    >>> payload = from_sheet(b"names\nname\t1\tsky.hlsl\n")
+    >>> to_sheet(payload)
+    b'names\nname\t1\tsky.hlsl\n'
+    >>> try:
+    ...     from_sheet(b"arguments\nname\t1\tsky.hlsl\n")
+    ... except Refused as refused:
+    ...     print(refused)
+    refused 20, bad line: A line of a sheet is malformed or misplaced. (line: 2)
+    """
+    return bytes(_output(lambda output: _calls.from_sheet(sheet, output)))
 
 
 def _table(rows: int) -> "array[int]":

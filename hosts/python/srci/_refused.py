@@ -6,7 +6,7 @@ REFUSALS = tuple(name for name, _, _ in _TABLE)
 
 
 class Refused(Exception):
-    """A payload, or rows that were to be written, got one of the refusals.
+    """A payload, or what was to be made one, rows or a sheet, got one of the refusals.
 
     >>> try:
     ...     card(b"not a payload")

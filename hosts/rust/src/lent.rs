@@ -1,4 +1,4 @@
-//! The six jobs on lent buffers, with no allocation.
+//! The seven jobs on lent buffers, with no allocation.
 //!
 //! Each answers how many rows or bytes it stored at the start of what it was lent; the rest keeps its values. A refused
 //! call changes nothing.
@@ -60,15 +60,15 @@ pub fn write(
     })
 }
 
-/// An entry point that takes a payload and an output.
+/// An entry point that takes a payload, or a sheet, and an output.
 type Entry = unsafe extern "C" fn(*const u8, usize, *mut u8, usize, *mut u32) -> u32;
 
-fn make(entry: Entry, payload: &[u8], output: &mut [u8]) -> Result<usize, Refusal> {
+fn make(entry: Entry, given: &[u8], output: &mut [u8]) -> Result<usize, Refusal> {
     // SAFETY: each pointer and length is that of a slice.
     answer(|second| unsafe {
         entry(
-            payload.as_ptr(),
-            payload.len(),
+            given.as_ptr(),
+            given.len(),
             output.as_mut_ptr(),
             output.len(),
             second,
@@ -110,4 +110,13 @@ pub fn card(payload: &[u8], output: &mut [u8]) -> Result<usize, Refusal> {
 /// Those of [`crate::to_sheet()`], then [`Refusal::NoRoom`] with what is needed.
 pub fn to_sheet(payload: &[u8], output: &mut [u8]) -> Result<usize, Refusal> {
     make(sys::srci_to_sheet, payload, output)
+}
+
+/// Makes the payload of a sheet. Answers how many bytes were stored.
+///
+/// # Errors
+///
+/// Those of [`crate::from_sheet()`], then [`Refusal::NoRoom`] with what is needed.
+pub fn from_sheet(sheet: &[u8], output: &mut [u8]) -> Result<usize, Refusal> {
+    make(sys::srci_from_sheet, sheet, output)
 }

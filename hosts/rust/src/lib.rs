@@ -1,8 +1,8 @@
 //! SRCI payloads of compiled shaders: what an attachment card tells of source files and compiler arguments.
 //!
-//! The six jobs [`read()`], [`write()`], [`list()`], [`public_copy()`], [`card()`] and [`to_sheet()`] are done by
-//! `libsrci.a`, whose every function is proved: whatever bytes and rows come, each call ends, stays inside its buffers,
-//! and answers what its definition gives.
+//! The seven jobs [`read()`], [`write()`], [`list()`], [`public_copy()`], [`card()`], [`to_sheet()`] and [`from_sheet()`]
+//! are done by `libsrci.a`, whose every function is proved: whatever bytes and rows come, each call ends, stays inside its
+//! buffers, and answers what its definition gives.
 //! This package finds the sizes that a job needs, allocates once, and puts names to the numbers. It is tested, and not
 //! itself proved.
 //!
@@ -164,6 +164,27 @@ pub fn card(payload: &[u8]) -> Result<String, Refusal> {
 /// A refusal from 1 to 15, where the payload is not accepted.
 pub fn to_sheet(payload: &[u8]) -> Result<Vec<u8>, Refusal> {
     made(|output| lent::to_sheet(payload, output))
+}
+
+/// Makes the payload of a sheet, whose lines are those of [`to_sheet()`]: the payload's sheet is this one, byte for byte.
+/// Each line is closed by a newline, the last one too, and nothing is passed over: neither an empty line nor a carriage
+/// return. A sheet may be of any length.
+///
+/// ```
+/// let sheet = b"arguments\npair\tE\tmain\n";
+/// let payload = srci::from_sheet(sheet)?;
+/// assert_eq!(srci::to_sheet(&payload)?, sheet);
+/// // a name follows names
+/// assert_eq!(srci::from_sheet(b"arguments\nname\t1\ta\n"), Err(srci::Refusal::BadLine(2)));
+/// # Ok::<(), srci::Refusal>(())
+/// ```
+///
+/// # Errors
+///
+/// The first of these: a line that is malformed or misplaced (20), or a text of it that is not UTF-8 (11) or has a NUL
+/// inside (12); what passes a limit (18).
+pub fn from_sheet(sheet: &[u8]) -> Result<Vec<u8>, Refusal> {
+    made(|output| lent::from_sheet(sheet, output))
 }
 
 /// What a job stores in an output of the length that it needs.

@@ -61,4 +61,12 @@ extern "C" {
         output_length: usize,
         second: *mut u32,
     ) -> u32;
+
+    pub fn srci_from_sheet(
+        sheet: *const u8,
+        sheet_length: usize,
+        output: *mut u8,
+        output_length: usize,
+        second: *mut u32,
+    ) -> u32;
 }
