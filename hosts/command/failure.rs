@@ -9,8 +9,8 @@ pub enum Failure {
     Refused(String, Refusal),
     /// What was refused, why, and where in it.
     RefusedAt(String, Refusal, Location),
-    /// The sheet that was refused, why, and the line at fault as it is shown.
-    RefusedLine(String, Refusal, String),
+    /// The sheet that was refused, the number of the line at fault, why, and the line as it is shown.
+    RefusedLine(String, usize, Refusal, String),
     /// What was refused, and why: it is a shader container.
     Container(String, Refusal),
     /// The payload in which no file has this name.
@@ -54,10 +54,9 @@ impl Failure {
             Failure::RefusedAt(what, refusal, location) => {
                 writeln!(out, "srci: {what}: refused {refusal} ({location})")
             }
-            Failure::RefusedLine(what, refusal, shown) => {
+            Failure::RefusedLine(what, line, refusal, shown) => {
                 // the line's number stands where editors and terminals look for it
                 let (number, name, meaning) = (refusal.number(), refusal.name(), refusal.meaning());
-                let line = refusal.second();
                 writeln!(
                     out,
                     "srci: {what}:{line}: refused {number}, {name}: {meaning}\n    {shown}"

@@ -22,19 +22,33 @@ impl<'a> Sheet<'a> {
 
     /// The payload that it makes.
     pub fn payload(&self) -> Result<Vec<u8>, Failure> {
-        payload(&self.bytes).map_err(|refusal| match refusal {
-            Refusal::BadLine(number) => {
+        payload(&self.bytes).map_err(|refusal| match self.line_at_fault(refusal) {
+            Some(number) => {
                 let named = files::plainly_named(self.file);
-                Failure::RefusedLine(Field(&named).to_string(), refusal, self.shown(number))
+                let shown = self.shown(number);
+                Failure::RefusedLine(Field(&named).to_string(), number, refusal, shown)
             }
-            _ => Failure::Refused(files::named(self.file), refusal),
+            None => Failure::Refused(files::named(self.file), refusal),
         })
     }
 
-    /// A line by its number from 1, with what does not show in it.
-    fn shown(&self, number: u32) -> String {
+    /// The number, from 1, of the line that a refusal is for; none where it is for all of them. The lines before it are
+    /// good, so that its text has the first byte of the sheet that is not UTF-8, or the first NUL.
+    fn line_at_fault(&self, refusal: Refusal) -> Option<usize> {
+        let at = match refusal {
+            Refusal::BadLine(number) => return Some(number as usize),
+            Refusal::NotUtf8 => std::str::from_utf8(&self.bytes).err()?.valid_up_to(),
+            Refusal::InnerNul => self.bytes.iter().position(|byte| *byte == 0)?,
+            _ => return None,
+        };
+        let before = self.bytes[..at].iter().filter(|byte| **byte == b'\n');
+        Some(before.count() + 1)
+    }
+
+    /// A line by its number, with what does not show in it.
+    fn shown(&self, number: usize) -> String {
         let mut lines = self.bytes.split(|byte| *byte == b'\n');
-        let line = lines.nth(number as usize - 1).unwrap_or_default();
+        let line = lines.nth(number - 1).unwrap_or_default();
         let is_closed = lines.next().is_some();
         match (line, is_closed) {
             ([], _) => "(it is empty)".to_string(),

@@ -341,6 +341,14 @@ def test_lines_of_refusals(folder):
     assert said_of(before, b"pair\tE\tmain\n") == f"srci: standard input:3: {bad}    pair\tE\tmain\n"
     assert said_of(before, b"\n", b"names\n") == f"srci: standard input:3: {bad}    (it is empty)\n"
     assert said_of(before, b"names") == f"srci: standard input:3: {bad}    names (no newline closes it)\n"
+    # a text at fault has a line as well, whatever stands after it
+    after = b"name\t1\t\0\nname\t1\t\xff\n"
+    for number, line, shown in [(11, b"name\t1\t\xc3\xa9\xff", "name\t1\té\ufffd"),
+                                (12, b"name\t1\ta\0b", "name\t1\ta\\u{0}b")]:
+        told = said_of(before, b"names\n", line, b"\n", after)
+        assert told.startswith(f"srci: standard input:4: refused {number}, {REFUSALS[number - 1]}: ")
+        assert told.endswith(f"\n    {shown}\n")
+    assert said_of(before, b"arguments\npair\ta\0b\t\xff\n").startswith("srci: standard input:4: refused 12, ")
     # by the file's name as it was given, which editors and terminals open at the line
     for name, told in [("sky.sheet", "sky.sheet"), ("a\x1b\n.sheet", "a\\u{1b}\\n.sheet"), (b"\xff", '"\\\\xFF"')]:
         pathlib.Path(os.fsdecode(os.path.join(os.fsencode(folder), os.fsencode(name)))).write_bytes(before * 5 + b"x\n")
@@ -355,9 +363,9 @@ def test_lines_of_refusals(folder):
         for count in (160, 161, 1_000_000):
             shown = letter * 160 + (" .." if count > 160 else "")
             assert said_of(letter.encode() * count + b"\n") == f"srci: standard input:1: {bad}    {shown}\n"
-    # without a line of its own the file is named
-    for number, line in [(11, b"name\t1\t\xff\n"), (12, b"name\t1\t\0\n"), (18, b"name\t1\t" + b"n" * 65_516 + b"\n")]:
-        assert said_of(before, line).startswith(f"srci: standard input: refused {number}, {REFUSALS[number - 1]}: ")
+    # what is for all lines names the file
+    long = b"name\t1\t" + b"n" * 65_516 + b"\n"
+    assert said_of(before, long).startswith(f"srci: standard input: refused 18, {REFUSALS[17]}: ")
 
 
 def test_rename(folder):
