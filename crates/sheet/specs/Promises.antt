@@ -143,4 +143,4 @@ FromSheetRefuses =
 
 -- a sheet is at most three and a half times as long as its payload
 abbrev pub SheetSize : Type 0
-SheetSize = (p s : List ℕ) → AcceptedPayload p → toSheet p ≡ good s → 2 * length s ≤ 7 * length p
+SheetSize = (p s : List ℕ) → Bytes p → toSheet p ≡ good s → 2 * length s ≤ 7 * length p
