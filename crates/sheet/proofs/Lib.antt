@@ -12,6 +12,7 @@ pub mod LinesRead
 pub mod SheetsRead
 -- The promises
 pub mod Promises
+pub mod FaultyLines
 pub mod Refusals
 pub mod SheetSize
 -- The samples

@@ -70,10 +70,28 @@ sheet-read ss ok fit =
     let found = records-read (records ss) (records-order ss _) (records-ok ss ok) in
     then-passes _ _ found (rw (sections-of-records ss) (check-passes _ _ _ fit refl))
 
+-- and so as the payload
+sheet-back : (p : List ℕ) (h : Sheeted p) → fromSheet (sheet (h .ss)) ≡ good p
+sheet-back p h = sheet-read (h .ss) (h .ok) (h .fit) ∙ ap good (h .is)
+
 pub out-and-back : OutAndBack
 out-and-back p all =
     let h = accepted-sheeted p all in
-    (sheet (h .ss), h .made, sheet-read (h .ss) (h .ok) (h .fit) ∙ ap good (h .is))
+    (sheet (h .ss), h .made, sheet-back p h)
+
+-- a payload that has a sheet is accepted, and this is the sheet of its sections
+pub made-sheeted : (p s : List ℕ) → Bytes p → toSheet p ≡ good s → (h : Sheeted p) × (sheet (h .ss) ≡ s)
+unfolding toSheet
+made-sheeted p s bytes e =
+    let (rows, found, rest) = then-good _ _ _ e in
+    let h = sheeted p rows bytes found in
+    let same : good (sheet (h .ss)) ≡ good s = sym (h .made) ∙ e in
+    (h, cc)
+
+made-back : (p s : List ℕ) → Bytes p → toSheet p ≡ good s → fromSheet s ≡ good p
+made-back p s bytes e =
+    let (h, is) = made-sheeted p s bytes e in
+    ap fromSheet (sym is) ∙ sheet-back p h
 
 -- ---- the payload of an accepted sheet
 
@@ -106,12 +124,7 @@ pub sheets-differ : SheetsDiffer
 sheets-differ s t p e f = cc (one-sheet-only s p e .1, one-sheet-only t p f .1)
 
 pub payloads-differ : PayloadsDiffer
-payloads-differ p q s all every e f =
-    let (a, made, back) = out-and-back p all in
-    let (b, makes, again) = out-and-back q every in
-    let same : a ≡ s = cc in
-    let still : b ≡ s = cc in
-    cc
+payloads-differ p q s bytes every e f = cc (made-back p s bytes e, made-back q s every f)
 
 -- ---- said of the calls
 
@@ -123,11 +136,8 @@ stored made output count e =
 
 pub calls-out-and-back : CallsOutAndBack
 unfolding toSheetAnswer toSheetOutput fromSheetAnswer fromSheetOutput
-calls-out-and-back p output again count all e =
-    let (s, made, back) = out-and-back p all in
-    let same : good s ≡ good (take count (outputAfter (toSheet p) output)) = sym made ∙ stored (toSheet p) output count e in
-    let is : s ≡ take count (outputAfter (toSheet p) output) = cc in
-    let writes : fromSheet (take count (outputAfter (toSheet p) output)) ≡ good p = ap fromSheet (sym is) ∙ back in
+calls-out-and-back p output again count bytes e =
+    let writes = made-back p (take count (outputAfter (toSheet p) output)) bytes (stored (toSheet p) output count e) in
     (ap (λ (c : Checked (List ℕ)). answer c (length again)) writes, ap (λ (c : Checked (List ℕ)). outputAfter c again) writes)
 
 pub calls-one-sheet-only : CallsOneSheetOnly

@@ -1,46 +1,31 @@
 -- The promises of specs/Promises.antt on refused sheets, each under its name.
 -- Assumes nothing.
-use Prim.Native.Nat.{ℕ, _+_, _≤_}
-use mathlib.Core.Bool.{Bool, true, false}
+use Prim.Native.Nat.{ℕ, _+_, _≤_, min}
 use mathlib.Core.List.{List, [], _∷_, _++_}
 use mathlib.Core.Logic.{_⊎_, inl, inr}
-use mathlib.Core.Path.{_≡_, refl, sym, ap, ap₂, _∙_}
+use mathlib.Core.Path.{_≡_, refl, sym, ap, _∙_}
 use native.Mathlib.Omega.{arith}
-use borrow.Author.Tests.{eqb-true}
-use lib.Dec.{eqb}
 use lib.ListN.{length}
-use Rattle.layout.specs.Checked.{Checked, fault, good, check, then}
+use Rattle.layout.specs.Checked.{Checked, fault, good, check}
+use Rattle.layout.specs.Refusals.{refusalNumber, refusalSecond}
 use Rattle.layout.specs.declared.refusal.Answer.the-variants.{Refused}
 use Rattle.layout.specs.declared.refusal.Refusal.{Refusal}
-use Rattle.layout.specs.declared.refusal.Refusal.the-variants.{NotUtf8, InnerNul, WontFit}
+use Rattle.layout.specs.declared.refusal.Refusal.the-variants.{NotUtf8, InnerNul, WontFit, BadLine}
 use Rattle.layout.proofs.Checked.{after-fault, after-good}
 use Rattle.layout.proofs.Faults.{Only, only-value as value, only-test as test, only-step as step}
 use Rattle.table.specs.declared.tag.Tag.{Tag}
 use Rattle.table.specs.declared.tag.Tag.the-variants.{None}
 use Rattle.format.specs.Output.{answer}
-use Rattle.format.specs.Records.{Record}
 use Rattle.format.specs.RefusedCalls.{LacksRoom}
 use Rattle.format.proofs.Output.{for-room}
 use Rattle.sheet.specs.Fields.{newline}
-use Rattle.sheet.specs.FromSheet.{badLine, readLines, sheetRecords, fromSheet, fromSheetAnswer}
+use Rattle.sheet.specs.FromSheet.{readLines, sheetRecords, fromSheet, fromSheetAnswer}
 use Rattle.sheet.specs.Lines.{Parts, parts, split, checkAll, readFields, readLine}
-use Rattle.sheet.specs.Promises.{FirstFaultDecides, lineCount, OfSheet, FromSheetRefuses}
+use Rattle.sheet.specs.Promises.{FirstFaultDecides, OfLines, CallsFirstFault, lastTag, RefusedLine, FaultyLine, CallsFaultyLine, LineNumber, OfSheet, FromSheetRefuses}
+use Rattle.sheet.proofs.FaultyLines.{never, then-fault, check-fault, fault-is-of-a-line}
 use Rattle.sheet.proofs.Splitting.{split-append}
 
 -- ---- the first faulty line decides
-
--- where what comes first is at fault, or what comes next
-data Fault {A B : Type 0} (c : Checked A) (next : A → Checked B) (r : Refusal) : Type 0 where
-  first : c ≡ fault r → Fault c next r
-  second : (a : A) → c ≡ good a → next a ≡ fault r → Fault c next r
-
-then-fault : {A B : Type 0} (c : Checked A) (next : A → Checked B) (r : Refusal) → then c next ≡ fault r → Fault c next r
-unfolding then
-then-fault (fault q) next r e = first (cc)
-then-fault (good a) next r e = second a refl e
-
-never : {A : Type 0} {a : A} {r : Refusal} → _≡_ {A = Checked A} (good a) (fault r) → ⊥
-never e = let z : _≡_ {A = ℕ} 0 1 = cc in omega arith
 
 -- lines at fault are so whatever stands after them
 fault-stays :
@@ -48,66 +33,73 @@ fault-stays :
     readLines n previous line (rest ++ [] ∷ []) ≡ fault r →
     readLines n previous line (rest ++ last ∷ more) ≡ fault r
 unfolding readLines check
-fault-stays [] n previous line last more r e = go (then-fault _ _ r e)
-  where
-    go :
-        Fault (readLine (badLine n) previous line) (λ (a : Record). then (readLines (n + 1) (a .tag) [] []) (λ (rs : List Record). good (a ∷ rs))) r →
-        readLines n previous line (last ∷ more) ≡ fault r
-    go (first f) = after-fault _ _ f
-    go (second a f g) = absurd (ended (then-fault _ _ r g))
-      where
-        ended : Fault (readLines (n + 1) (a .tag) [] []) (λ (rs : List Record). good (a ∷ rs)) r → ⊥
-        ended (first f) = never f
-        ended (second rs f g) = never g
-fault-stays (next ∷ rest) n previous line last more r e = go (then-fault _ _ r e) (λ (t : Tag). fault-stays rest (n + 1) t next last more r)
-  where
-    go :
-        Fault (readLine (badLine n) previous line) (λ (a : Record). then (readLines (n + 1) (a .tag) next (rest ++ [] ∷ [])) (λ (rs : List Record). good (a ∷ rs))) r →
-        ((t : Tag) → readLines (n + 1) t next (rest ++ [] ∷ []) ≡ fault r → readLines (n + 1) t next (rest ++ last ∷ more) ≡ fault r) →
-        readLines n previous line (next ∷ (rest ++ last ∷ more)) ≡ fault r
-    go (first f) again = after-fault _ _ f
-    go (second a f g) again = after-good _ _ f ∙ inner (then-fault _ _ r g)
-      where
-        inner :
-            Fault (readLines (n + 1) (a .tag) next (rest ++ [] ∷ [])) (λ (rs : List Record). good (a ∷ rs)) r →
-            then (readLines (n + 1) (a .tag) next (rest ++ last ∷ more)) (λ (rs : List Record). good (a ∷ rs)) ≡ fault r
-        inner (first f) = after-fault _ _ (again (a .tag) f)
-        inner (second rs f g) = absurd (never g)
+fault-stays [] n previous line last more r e =
+    then-fault _ _ r e
+    (λ f. after-fault _ _ f)
+    (λ a f g. absurd (then-fault _ _ r g (λ f. never f) (λ rs f g. never g)))
+fault-stays (next ∷ rest) n previous line last more r e =
+    then-fault _ _ r e
+    (λ f. after-fault _ _ f)
+    (λ a f g.
+    after-good _ _ f ∙
+    then-fault _ _ r g
+    (λ f. after-fault _ _ (fault-stays rest _ (a .tag) next last more r f))
+    (λ rs f g. absurd (never g)))
 
 split-ended : (s : List ℕ) → split newline (s ++ (newline ∷ [])) ≡ parts (split newline s .first) (split newline s .rest ++ [] ∷ [])
 unfolding split
 split-ended s = split-append newline s []
 
 pub first-fault-decides : FirstFaultDecides
-unfolding sheetRecords fromSheet
+unfolding sheetRecords fromSheet fromSheetAnswer answer
 first-fault-decides s after r e =
     let p : Parts = split newline s in
     let q : Parts = split newline after in
-    let ended : readLines 1 None (p .first) (p .rest ++ [] ∷ []) ≡ fault r = sym (ap (λ (p : Parts). readLines 1 None (p .first) (p .rest)) (split-ended s)) ∙ e in
-    after-fault _ _ (rw (split-append newline s after) (fault-stays (p .rest) 1 None (p .first) (q .first) (q .rest) r ended))
+    let ended = sym (ap (λ (p : Parts). readLines 1 None (p .first) (p .rest)) (split-ended s)) ∙ e in
+    let found : fromSheet (s ++ newline ∷ after) ≡ fault r = after-fault _ _ (rw (split-append newline s after) (fault-stays (p .rest) 1 None (p .first) (q .first) (q .rest) r ended)) in
+    (found, λ room. ap (λ (c : Checked (List ℕ)). answer c room) found)
 
 -- ---- which refusals there are
 
-module _ (s : List ℕ) where
-  texts : (ts : List (List ℕ)) → Only (OfSheet s) (checkAll ts)
+-- of reading a line: 11, 12, or the one that the line itself has
+abbrev OfLine : Refusal → Refusal → Type 0
+OfLine own refusal = (refusal ≡ NotUtf8) ⊎ (refusal ≡ InnerNul) ⊎ (refusal ≡ own)
+
+module _ (own : Refusal) where
+  texts : (ts : List (List ℕ)) → Only (OfLine own) (checkAll ts)
   unfolding checkAll
   texts [] = value tt
   texts (t ∷ ts) = step _ _ (test _ _ _ (inl refl) (test _ _ _ (inr (inl refl)) (value tt))) (λ _. texts ts)
 
-  line : (refusal : Refusal) (previous : Tag) (bytes : List ℕ) → OfSheet s refusal → Only (OfSheet s) (readLine refusal previous bytes)
+  line : (previous : Tag) (bytes : List ℕ) → Only (OfLine own) (readLine own previous bytes)
   unfolding readLine readFields
-  line refusal previous bytes of = test _ _ _ of (step _ _ (texts _) (λ _. value _))
+  line previous bytes = test _ _ _ (inr (inr refl)) (step _ _ (texts _) (λ _. value _))
 
-  lines : (rest : List (List ℕ)) (n : ℕ) (previous : Tag) (bytes : List ℕ) → 1 ≤ n → n + length rest ≤ lineCount s → Only (OfSheet s) (readLines n previous bytes rest)
-  unfolding readLines
-  lines [] n previous last least most = test _ _ _ (inr (inr (inr (n, omega arith, omega arith, refl)))) (value [])
-  lines (next ∷ rest) n previous bytes least most =
-      step _ _ (line (badLine n) previous bytes (inr (inr (inr (n, omega arith, omega arith, refl)))))
-      (λ r. step _ _ (lines rest (n + 1) (r .tag) next (omega arith) (omega arith)) (λ rs. value (r ∷ rs)))
+-- of a faulty line
+of-faulty : (s : List ℕ) (refusal : Refusal) (f : FaultyLine s refusal) → OfLine (BadLine (min (1 + length (f .before)) 4294967295)) refusal
+of-faulty s refusal f = go (f .own)
+  where
+    go :
+        RefusedLine (1 + length (f .before)) (lastTag None (f .records)) (f .line) (f .after) refusal →
+        OfLine (BadLine (min (1 + length (f .before)) 4294967295)) refusal
+    go (inl (last, some, is)) = inr (inr is)
+    go (inr (closed, is)) = line _ _ (f .line) .only refusal is
 
-  all-of : Only (OfSheet s) (fromSheet s)
-  unfolding fromSheet sheetRecords
-  all-of = step _ _ (lines (split newline s .rest) 1 None (split newline s .first) (omega arith) (omega arith)) (λ rs. test _ _ _ (inr (inr (inl refl))) (value _))
+-- a sheet at fault: its lines are, or it does not fit
+of-sheet : {C : Type 0} (s : List ℕ) (refusal : Refusal) → fromSheet s ≡ fault refusal → (sheetRecords s ≡ fault refusal → C) → (refusal ≡ WontFit → C) → C
+unfolding fromSheet
+of-sheet s refusal e lines limits = then-fault _ _ refusal e lines (λ rs f g. limits (check-fault _ _ _ refusal g .1))
+
+all-of : (s : List ℕ) (refusal : Refusal) → fromSheet s ≡ fault refusal → OfSheet refusal
+all-of s refusal e =
+    of-sheet s refusal e
+    (λ f. let faulty = fault-is-of-a-line s refusal f in go (1 + length (faulty .before)) (omega arith) (of-faulty s refusal faulty))
+    (λ w. inr (inr (inl w)))
+  where
+    go : (n : ℕ) → 1 ≤ n → OfLine (BadLine (min n 4294967295)) refusal → OfSheet refusal
+    go n least (inl e) = inl e
+    go n least (inr (inl e)) = inr (inl e)
+    go n least (inr (inr e)) = inr (inr (inr (n, least, e)))
 
 pub from-sheet-refuses : FromSheetRefuses
 unfolding fromSheetAnswer answer
@@ -117,10 +109,42 @@ from-sheet-refuses s room refusal e = go (fromSheet s) refl e
         (c : Checked (List ℕ)) →
         fromSheet s ≡ c →
         answer c room ≡ Refused refusal →
-        ((fromSheet s ≡ fault refusal) × OfSheet s refusal) ⊎ LacksRoom (fromSheet s) room refusal
+        ((fromSheet s ≡ fault refusal) × OfSheet refusal) ⊎ LacksRoom (fromSheet s) room refusal
     go (fault r) f g =
         let found : fromSheet s ≡ fault refusal = cc in
-        inl (found, all-of s .only refusal found)
+        inl (found, all-of s refusal found)
     go (good bytes) f g =
         let (lacks, short) = for-room bytes room refusal g in
         inr (bytes, f, lacks, short)
+
+-- ---- said of the calls
+
+-- 11, 12 and 20 are none of 18 and 19
+not-of-lines : (refusal : Refusal) → OfLines refusal → (18 ≤ refusalNumber refusal) → (refusalNumber refusal ≤ 19) → ⊥
+not-of-lines refusal (inl e) least most = omega (arith, ap refusalNumber e)
+not-of-lines refusal (inr (inl e)) least most = omega (arith, ap refusalNumber e)
+not-of-lines refusal (inr (inr (n, e))) least most = omega (arith, ap refusalNumber e)
+
+-- a call that is refused with 11, 12 or 20 is so for its lines
+lines-refused : (s : List ℕ) (room : ℕ) (refusal : Refusal) → fromSheetAnswer s room ≡ Refused refusal → OfLines refusal → sheetRecords s ≡ fault refusal
+lines-refused s room refusal e of = go (from-sheet-refuses s room refusal e)
+  where
+    go : ((fromSheet s ≡ fault refusal) × OfSheet refusal) ⊎ LacksRoom (fromSheet s) room refusal → sheetRecords s ≡ fault refusal
+    go (inl (f, all)) = of-sheet s refusal f (λ g. g) (λ w. absurd (not-of-lines refusal of (omega (arith, ap refusalNumber w)) (omega (arith, ap refusalNumber w))))
+    go (inr (bytes, f, lacks, short)) = absurd (not-of-lines refusal of (omega (arith, ap refusalNumber lacks)) (omega (arith, ap refusalNumber lacks)))
+
+pub calls-first-fault : CallsFirstFault
+calls-first-fault s after room room′ refusal e of = first-fault-decides s after refusal (lines-refused (s ++ (newline ∷ [])) room refusal e of) .1 room′
+
+pub calls-faulty-line : CallsFaultyLine
+calls-faulty-line s room refusal e of = fault-is-of-a-line s refusal (lines-refused s room refusal e of)
+
+pub line-number : LineNumber
+line-number s room n e small =
+    let faulty = calls-faulty-line s room (BadLine n) e (inr (inr (n, refl))) in
+    (faulty, go (1 + length (faulty .before)) (of-faulty s (BadLine n) faulty))
+  where
+    go : (k : ℕ) → OfLine (BadLine (min k 4294967295)) (BadLine n) → n ≡ k
+    go k (inl e) = let z : _≡_ {A = ℕ} 11 20 = ap refusalNumber (sym e) in absurd (omega arith)
+    go k (inr (inl e)) = let z : _≡_ {A = ℕ} 12 20 = ap refusalNumber (sym e) in absurd (omega arith)
+    go k (inr (inr e)) = let same : n ≡ min k 4294967295 = ap refusalSecond e in omega arith

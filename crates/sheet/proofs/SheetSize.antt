@@ -2,14 +2,13 @@
 -- Assumes nothing.
 use Prim.Native.Nat.{ℕ, _+_, _*_, _^_, _≤_, _<_}
 use mathlib.Core.List.{List, [], _∷_, _++_, map, flatMap}
-use mathlib.Core.Path.{_≡_, refl, sym, ap, _∙_}
+use mathlib.Core.Path.{_≡_, refl, ap}
 use native.Mathlib.Omega.{arith}
 use mathlib.Core.Bool.{Bool, true, false, cond}
 use lib.Dec.{eqb}
 use lib.ListN.{length, length-append}
 use Rattle.wire.specs.Length.{wireSize}
 use Rattle.wire.proofs.PaddingLaws.{le-aligned}
-use Rattle.layout.specs.Checked.{Checked, good}
 use Rattle.layout.proofs.Lists.{flatMap-append}
 use Rattle.table.specs.Tags.{beginsSection}
 use Rattle.table.specs.declared.tag.Tag.{Tag}
@@ -26,7 +25,7 @@ use Rattle.sheet.specs.Fields.{tab, newline, backslash, hexPairs, escape
 use Rattle.sheet.specs.Lines.{shown, line}
 use Rattle.sheet.specs.Promises.{SheetSize}
 use Rattle.sheet.specs.ToSheet.{sheet}
-use Rattle.sheet.proofs.Promises.{accepted-sheeted}
+use Rattle.sheet.proofs.Promises.{made-sheeted}
 
 -- ---- fields
 
@@ -109,8 +108,6 @@ sections-size (s ∷ ss) (ok, oks) =
     rw (flatMap-append line (recordsOf s) (records ss)) (simp length-append (omega (arith, section-size s ok, sections-size ss oks)))
 
 pub sheet-size : SheetSize
-sheet-size p s all e =
-    let h = accepted-sheeted p all in
-    let same : good s ≡ good (sheet (h .ss)) = sym e ∙ h .made in
-    let is : s ≡ sheet (h .ss) = cc in
+sheet-size p s bytes e =
+    let (h, is) = made-sheeted p s bytes e in
     omega (arith, sections-size (h .ss) (h .ok), length-encode (h .ss), ap length is, ap length (h .is))
