@@ -38,7 +38,7 @@ small : (p : List ℕ) → AcceptedPayload p → length (sheetLines p) ≤ sheet
 unfolding accepted
 small p all =
     let (rows, found) = is-good (parse p) (all .1) in
-    let size = sheet-size p (sheetLines p) all (sheet-by-walk .finds p rows (all .0) found) in
+    let size = sheet-size p (sheetLines p) (all .0) (sheet-by-walk .finds p rows (all .0) found) in
     omega (arith, size, parse-good p rows found .0)
 
 parse-srci-requires : tie.Need-parse-srci-requires
