@@ -12,9 +12,9 @@ use Rattle.table.specs.Tags.{sameTag}
 use Rattle.table.specs.declared.tag.Tag.{Tag}
 use Rattle.table.specs.declared.tag.Tag.the-variants as tag
 use Rattle.format.specs.Records.{numberCount, textCount, number, text, nameOf, pairOf}
+use Rattle.frames.specs.Entry.{name, pair}
 use Rattle.sheet.specs.Fields.{all, spelt, isNumber, numberOf, isHexPairs, bytesOfPairs, unescape}
 use Rattle.sheet.specs.Lines.{isShown, saidBy, isMade, isRuled}
-use Rattle.from_sheet.specs.Entry.{name, pair}
 
 -- ---- what it says; a field that is not there is empty, and says 0 or nothing
 

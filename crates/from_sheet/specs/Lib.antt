@@ -1,5 +1,4 @@
 pub mod Escape
-pub mod Entry
 pub mod Records
 pub mod Run
 pub mod Section

@@ -6,8 +6,8 @@ ghost use lib.ListN.{length};
 ghost use lib.Seq.{sets};
 ghost use Rattle.wire.specs.Length.{wireSize};
 ghost use Rattle.format.specs.Encoding.{limit, terminate, contentEntry, nameEntry, pairEntry};
+ghost use Rattle.frames.specs.Entry.{name, pair};
 ghost use Rattle.sheet.specs.Fields.{unescape};
-ghost use Rattle.from_sheet.specs.Entry.{name, pair};
 use crate::text::write_unescaped;
 use layout::SourceInfoSectionType;
 

@@ -5,5 +5,4 @@ pub mod Moving
 pub mod RunLaws
 pub mod SectionLaws
 pub mod SectionParts
-pub mod Stored
 pub mod Turns

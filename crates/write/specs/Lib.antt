@@ -1,4 +1,3 @@
-pub mod Entry
 pub mod Position
 pub mod Run
 pub mod Section

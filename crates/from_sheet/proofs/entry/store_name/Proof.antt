@@ -12,10 +12,10 @@ use Rattle.wire.proofs.PaddingLaws.{le-aligned}
 use Rattle.format.specs.Encoding.{u32}
 use Rattle.format.proofs.Encoding.{length-nameEntry}
 use Rattle.format.proofs.EntryBytes.{name-is, name-header}
+use Rattle.frames.specs.Entry.{name}
 use Rattle.frames.specs.Frame.{entryFramed}
 use Rattle.frames.proofs.EntryClosed.{entry-size, name-closed}
 use Rattle.sheet.specs.Fields.{unescape}
-use Rattle.from_sheet.specs.Entry.{name}
 use Rattle.from_sheet.proofs.entry.store_name.Statement.{statement}
 use Rattle.from_sheet.proofs.entry.store_name.Tie as tie
 

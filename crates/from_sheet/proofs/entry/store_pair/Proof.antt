@@ -10,8 +10,8 @@ use lib.Seq.{sets}
 use Rattle.wire.proofs.Sets.{sets-joined}
 use Rattle.format.specs.Encoding.{terminate, pairEntry}
 use Rattle.format.proofs.Encoding.{length-pairEntry}
+use Rattle.frames.specs.Entry.{pair}
 use Rattle.sheet.specs.Fields.{unescape}
-use Rattle.from_sheet.specs.Entry.{pair}
 use Rattle.from_sheet.proofs.entry.store_pair.Statement.{statement}
 use Rattle.from_sheet.proofs.entry.store_pair.Tie as tie
 

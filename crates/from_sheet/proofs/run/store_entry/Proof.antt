@@ -9,9 +9,9 @@ use lib.ListN.{length, getD}
 use Rattle.table.specs.declared.tag.Tag.{Tag}
 use Rattle.table.specs.declared.tag.Tag.the-variants as tag
 use Rattle.format.specs.Encoding.{contentEntry, nameEntry, pairEntry}
+use Rattle.frames.specs.Entry.{name, pair}
 use Rattle.sheet.specs.Fields.{numberOf, unescape}
 use Rattle.sheet.specs.Lines.{saidBy, isMade}
-use Rattle.from_sheet.specs.Entry.{name, pair}
 use Rattle.from_sheet.specs.Records.{fieldsOf}
 use Rattle.from_sheet.specs.Run.{entryBytes}
 use Rattle.from_sheet.proofs.Said.{content-said, name-said, pair-said, number-made}

@@ -1,58 +1,44 @@
 -- `write::entry::write_pair` meets its contract: two texts, each with its NUL, make the pair.
 -- Assumes nothing.
+use mathlib.Core.List.{[], _∷_}
 use native.Mathlib.Omega.{arith}
 use borrow.Author.Needs.{needs}
+use lib.ListN.{length-append}
+use Rattle.wire.proofs.Sets.{sets-joined}
+use Rattle.format.specs.Encoding.{terminate, pairEntry}
 use Rattle.format.proofs.Encoding.{length-pairEntry}
-use Rattle.write.specs.Entry.{pair}
-use Rattle.write.proofs.Stored.{pair-stored}
+use Rattle.frames.specs.Entry.{pair}
 use Rattle.write.proofs.entry.write_pair.Statement.{statement}
 use Rattle.write.proofs.entry.write_pair.Tie as tie
 
-cast-t9 : tie.Need-cast-t9
-cast-t9 c = search needs
-
-wire-size-requires : tie.Need-wire-size-requires
-wire-size-requires c κs = search needs
-
-add-next : tie.Need-add-next
-add-next c = search needs
-
-cast-t9-2 : tie.Need-cast-t9-2
-cast-t9-2 c = search needs
-
-wire-size-requires-2 : tie.Need-wire-size-requires-2
-wire-size-requires-2 c κs = search needs
-
-add-end : tie.Need-add-end
-add-end c = search needs
-
 write-text-requires : tie.Need-write-text-requires
-write-text-requires c κs = search needs
+write-text-requires c κs =
+    let start = c .before .before .before .before in
+    omega (arith, length-pairEntry (pair (start .args .key .now) (start .args .value .now)), start .pre)
 
 write-text-requires-2 : tie.Need-write-text-requires-2
-write-text-requires-2 c κs = search needs
+write-text-requires-2 c κs =
+    let w = c .before .before .before in
+    let start = w .before .before .before .before .before in
+    omega (arith, w .write-text .ensures .0, length-pairEntry (pair (start .args .key .now) (start .args .value .now)), start .pre)
 
 same-length : tie.Need-same-length
 same-length c = search needs
 
 returns : tie.Need-returns
+unfolding pairEntry
 returns c =
-    let a = c .before .before .before .before .before .before .before .before .before .before .before .before .before .before .before .args in
-    let k = a .key .now in
-    let v = a .value .now in
-    (omega (arith, length-pairEntry (pair k v)), cc (pair-stored (a .output .now) k v (a .at)))
+    let second = c .before .before in
+    let w = second .before .before .before .before in
+    let a = w .before .before .before .before .before .args in
+    let key = a .key .now in
+    let value = a .value .now in
+    let next = w .write-text .ensures .0 in (
+      omega (arith, second .write-text2 .ensures .0, next, length-pairEntry (pair key value)),
+      rw (second .write-text2 .ensures .1, w .write-text .ensures .1)
+          (sets-joined (terminate key) (terminate value) (a .output .now) (a .at) (w .write-text .result) (omega (arith, next, length-append key (0 ∷ [])))),
+    )
 
 pub write-pair-spec : {M : Type 1} → statement M
 write-pair-spec =
-    tie.close
-    (tie.spec
-    cast-t9
-    wire-size-requires
-    add-next
-    cast-t9-2
-    wire-size-requires-2
-    add-end
-    write-text-requires
-    write-text-requires-2
-    same-length
-    returns)
+    tie.close (tie.spec write-text-requires write-text-requires-2 same-length returns)

@@ -1,39 +1,47 @@
--- `write::entry::write_text` meets its contract: the run of the text and then that of the zeros are one run.
+-- `write::entry::write_text` meets its contract: the text and its NUL are one run.
 -- Assumes nothing.
-use Prim.Native.Nat.{_+_, _-_}
-use lib.ListN.{length, replicate}
+use Prim.Native.Nat.{_+_}
+use mathlib.Core.List.{[], _∷_}
+use mathlib.Core.Path.{refl}
+use native.Mathlib.Omega.{arith}
 use borrow.Author.Needs.{needs}
-use Rattle.wire.proofs.Sets.{sets-append}
+use lib.ListN.{length}
+use Rattle.wire.proofs.Sets.{sets-joined}
 use Rattle.write.proofs.entry.write_text.Statement.{statement}
 use Rattle.write.proofs.entry.write_text.Tie as tie
 
 write-bytes-requires : tie.Need-write-bytes-requires
 write-bytes-requires c κs = search needs
 
-add-after : tie.Need-add-after
-add-after c = search needs
+add-close-text : tie.Need-add-close-text
+add-close-text c = search needs
 
-sub-write-zeros : tie.Need-sub-write-zeros
-sub-write-zeros c = search needs
+cast-close-text : tie.Need-cast-close-text
+cast-close-text c = search needs
 
-write-zeros-requires : tie.Need-write-zeros-requires
-write-zeros-requires c κs = search needs
+close-text-requires : tie.Need-close-text-requires
+close-text-requires c κs = search needs
 
 same-length : tie.Need-same-length
 same-length c = search needs
 
 returns : tie.Need-returns
 returns c =
-    let a = c .before .before .before .before .before .before .before .before .before .before .args in
-    cc (sets-append (a .text .now) (replicate (a .end - (a .at + length (a .text .now))) 0) (a .output .now) (a .at))
+    let closed = c .before .before in
+    let w = closed .before .before .before .before in
+    let a = w .before .before .before .before .args in
+    let t = a .text .now in (
+      omega (arith, closed .close-text .ensures .0),
+      rw (closed .close-text .ensures .1, w .write-bytes .ensures) (sets-joined t (0 ∷ []) (a .output .now) (a .at) (a .at + length t) refl),
+    )
 
 pub write-text-spec : {M : Type 1} → statement M
 write-text-spec =
     tie.close
     (tie.spec
     write-bytes-requires
-    add-after
-    sub-write-zeros
-    write-zeros-requires
+    add-close-text
+    cast-close-text
+    close-text-requires
     same-length
     returns)

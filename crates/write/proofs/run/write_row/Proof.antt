@@ -3,8 +3,6 @@
 use mathlib.Core.Path.{refl}
 use native.Mathlib.Omega.{arith}
 use borrow.Author.Needs.{needs}
-use Rattle.format.specs.Resolve.{contentOf, nameOf, pairOf}
-use Rattle.format.proofs.Encoding.{length-contentEntry, length-nameEntry, length-pairEntry}
 use Rattle.write.specs.Run.{rowBytes}
 use Rattle.write.proofs.run.write_row.Statement.{statement}
 use Rattle.write.proofs.run.write_row.Tie as tie
@@ -20,8 +18,7 @@ unfolding rowBytes
 write-content-requires c κs =
     let text = c .before .before .before .text-of in
     let start = c .before .before .before .before .before .before .before in
-    let fits = rw (c .before .enum-told .given .1) at (start .pre) in
-    rw (text .ensures) (omega (arith, fits, length-contentEntry (contentOf (start .args .payload .now) (start .args .edit .now) (start .args .row))))
+    rw (text .ensures) (rw (c .before .enum-told .given .1) at (start .pre))
 
 enum-told-2 : tie.Need-enum-told-2
 enum-told-2 c = search needs
@@ -31,8 +28,7 @@ unfolding rowBytes
 write-name-requires c κs =
     let text = c .before .before .before .text-of in
     let start = c .before .before .before .before .before .before .before in
-    let fits = rw (c .before .enum-told2 .given .1) at (start .pre) in
-    rw (text .ensures) (omega (arith, fits, length-nameEntry (nameOf (start .args .payload .now) (start .args .edit .now) (start .args .row))))
+    rw (text .ensures) (rw (c .before .enum-told2 .given .1) at (start .pre))
 
 enum-told-3 : tie.Need-enum-told-3
 enum-told-3 c = search needs
@@ -45,8 +41,7 @@ unfolding rowBytes
 write-pair-requires c κs =
     let text = c .before .before .before .before .text-of in
     let start = c .before .before .before .before .before .before .before .before in
-    let fits = rw (c .before .before .enum-told3 .given .1) at (start .pre) in
-    rw (text .ensures, c .before .text-of2 .ensures) (omega (arith, fits, length-pairEntry (pairOf (start .args .payload .now) (start .args .edit .now) (start .args .row))))
+    rw (text .ensures, c .before .text-of2 .ensures) (rw (c .before .before .enum-told3 .given .1) at (start .pre))
 
 enum-told-4 : tie.Need-enum-told-4
 enum-told-4 c = search needs
