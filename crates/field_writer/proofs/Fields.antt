@@ -10,9 +10,9 @@ use borrow.Author.Tests.{eqb-true}
 use lib.Dec.{eqb, ltb}
 use lib.ListN.{length, getD, take, drop, length-drop, drop-of-length-le}
 use lib.Seq.{drop-cons, drop-drop, length-take-le}
-use Rattle.wire.specs.Find.{until, isAny}
+use Rattle.find.specs.Find.{until, isAny}
+use Rattle.find.proofs.FindLaws.{until-found, until-more, until-least, until-step}
 use Rattle.wire.specs.Number.{bytesOf}
-use Rattle.wire.proofs.FindLaws.{until-found, until-more, until-least, until-step}
 use Rattle.sheet.specs.Fields.{tab, newline, backslash, hexDigit, hexPair, hexPairs, escaped, escape}
 use Rattle.field_writer.specs.Letters.{letterOf}
 

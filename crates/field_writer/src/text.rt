@@ -39,7 +39,7 @@ pub fn write_escaped(output: &mut [u8], at: usize, text: &[u8]) -> usize
             to += 2;
             i += 1;
         } else {
-            let run = wire::find_any(&text[i..], BACKSLASH, TAB, NEWLINE);
+            let run = find::find_any(&text[i..], BACKSLASH, TAB, NEWLINE);
             wire::write_bytes(output, to, &text[i..i + run]);
             to += run;
             i += run;

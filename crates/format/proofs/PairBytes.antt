@@ -7,9 +7,9 @@ use native.Mathlib.Omega.{arith}
 use borrow.Author.Tests.{ltb-false}
 use lib.ListN.{length, drop, length-append, length-drop}
 use lib.Seq.{getD-drop}
+use Rattle.find.specs.Nul.{untilNul}
+use Rattle.find.proofs.NulLaws.{until-at, until-closed, until-prefix}
 use Rattle.wire.specs.Length.{wireSize}
-use Rattle.wire.specs.Nul.{untilNul}
-use Rattle.wire.proofs.NulLaws.{until-at, until-closed, until-prefix}
 use Rattle.layout.specs.Checked.{Checked, good}
 use Rattle.layout.specs.Spans.{span, part}
 use Rattle.table.specs.Rows.{pairRow}

@@ -8,9 +8,9 @@ use native.Mathlib.Omega.{arith}
 use borrow.Author.Tests.{lt-ltb, le-ltb, ltb-true, eqb-true}
 use lib.ListN.{length, getD, drop, length-take, length-drop}
 use lib.Seq.{getD-take, getD-drop}
+use Rattle.find.specs.Nul.{untilNul}
+use Rattle.find.proofs.NulLaws.{until-take, until-prefix, until-in-prefix, until-nul, until-run}
 use Rattle.wire.specs.Length.{wireSize}
-use Rattle.wire.specs.Nul.{untilNul}
-use Rattle.wire.proofs.NulLaws.{until-take, until-prefix, until-in-prefix, until-nul, until-run}
 use Rattle.utf8.specs.Rfc3629.{wellFormed}
 use Rattle.utf8.proofs.Laws.{ascii-well-formed}
 use Rattle.layout.specs.Checked.{Checked, fault, good, check, then}

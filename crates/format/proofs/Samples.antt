@@ -2,7 +2,7 @@
 -- Assumes nothing.
 use mathlib.Core.Path.{refl}
 use mathlib.Core.List.{flatMap}
-use Rattle.wire.specs.Nul.{untilNul}
+use Rattle.find.specs.Nul.{untilNul}
 use Rattle.wire.specs.Number.{littleEndian, bytesOf}
 use Rattle.wire.specs.Padding.{padding, aligned, allZero}
 use Rattle.utf8.specs.Rfc3629.{wellFormed, utf8Of, octetsFrom, charLength, firstLength, begins}

@@ -5,7 +5,7 @@ use mathlib.Core.Bool.{not}
 use mathlib.Core.List.{List, []}
 use mathlib.Core.Path.{_≡_, refl, ap}
 use borrow.Author.Tests.{not-true}
-use Rattle.wire.specs.Nul.{untilNul, hasNul}
+use Rattle.find.specs.Nul.{untilNul, hasNul}
 use Rattle.utf8.proofs.Laws.{empty}
 use Rattle.layout.specs.Checked.{good}
 use Rattle.layout.specs.Spans.{part}

@@ -4,8 +4,8 @@ use Prim.Native.Nat.{ℕ, zero, suc, _+_, _-_, _%_}
 use mathlib.Core.List.{List, [], _∷_, _++_}
 use lib.Dec.{leb, ltb, eqb}
 use lib.ListN.{length}
+use Rattle.find.specs.Nul.{untilNul, hasNul}
 use Rattle.wire.specs.Length.{wireSize}
-use Rattle.wire.specs.Nul.{untilNul, hasNul}
 use Rattle.wire.specs.Number.{byteAt, u16At, u32At}
 use Rattle.wire.specs.Padding.{padding, aligned, allZero}
 use Rattle.layout.specs.Checked.{Checked, good, check, then}

@@ -5,7 +5,7 @@ use mathlib.Core.Bool.{Bool, true, false}
 use mathlib.Core.List.{List, [], _∷_, _++_}
 use lib.Dec.{eqb}
 use lib.ListN.{length, drop}
-use Rattle.wire.specs.Nul.{untilNul}
+use Rattle.find.specs.Nul.{untilNul}
 use Rattle.wire.specs.Number.{u16At, u32At}
 use Rattle.layout.specs.Kinds.{sectionType}
 use Rattle.layout.specs.Spans.{part}

@@ -3,8 +3,8 @@
 use Prim.Native.Nat.{ℕ, zero, suc, _+_, _-_}
 use mathlib.Core.List.{List, [], _∷_, flatMap}
 use lib.ListN.{drop}
+use Rattle.find.specs.Nul.{untilNul}
 use Rattle.wire.specs.Length.{wireSize}
-use Rattle.wire.specs.Nul.{untilNul}
 use Rattle.wire.specs.Number.{u16At, u32At}
 use Rattle.layout.specs.Kinds.{checkedCompression}
 use Rattle.layout.specs.Spans.{span}

@@ -5,7 +5,7 @@ use mathlib.Core.List.{List, [], _∷_}
 use mathlib.Core.Path.{_≡_}
 use lib.ListN.{length, getD}
 use Rattle.utf8.specs.Rfc3629.{wellFormed}
-use Rattle.wire.specs.Nul.{hasNul}
+use Rattle.find.specs.Nul.{hasNul}
 use Rattle.format.specs.Sections.{Name, Pair, Section, plain, packed, names, arguments, unknown}
 
 -- bytes are numbers below 256

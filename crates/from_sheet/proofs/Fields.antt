@@ -10,8 +10,8 @@ use borrow.Author.Tests.{leb-true, eqb-true, ltb-true, ltb-false}
 use lib.Dec.{eqb, leb, ltb}
 use lib.ListN.{length, getD, take, drop, length-drop, drop-of-length-le}
 use lib.Seq.{drop-cons, drop-drop, length-take-le}
-use Rattle.wire.specs.Find.{until, isAny}
-use Rattle.wire.proofs.FindLaws.{any-one, until-found, until-more, until-least}
+use Rattle.find.specs.Find.{until, isAny}
+use Rattle.find.proofs.FindLaws.{any-one, until-found, until-more, until-least}
 use Rattle.sheet.specs.Fields.{backslash, isHexDigit, hexValue, isHexPairs, bytesOfPairs, meant, unescape}
 use Rattle.sheet.proofs.Escapes.{plain-means, escape-means}
 use Rattle.sheet.proofs.HexPairs.{bytes-codec}

@@ -9,8 +9,8 @@ use borrow.Author.Tests.{eqb-true, ltb-true, ltb-false}
 use lib.Dec.{eqb, ltb}
 use lib.ListN.{length, take, drop, length-drop, drop-of-length-le}
 use lib.Seq.{length-take-le}
-use Rattle.wire.specs.Find.{until}
-use Rattle.wire.proofs.FindLaws.{until-least}
+use Rattle.find.specs.Find.{until}
+use Rattle.find.proofs.FindLaws.{until-least}
 use Rattle.layout.specs.Checked.{good}
 use Rattle.layout.proofs.Checked.{check-good, then-good}
 use Rattle.table.specs.declared.tag.Tag.{Tag}

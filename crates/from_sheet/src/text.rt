@@ -42,7 +42,7 @@ pub fn write_unescaped(output: &mut [u8], at: usize, field: &[u8]) -> usize
             to += 1;
             i += 2;
         } else {
-            let run = 1 + wire::find_any(&field[i + 1..], BACKSLASH, BACKSLASH, BACKSLASH);
+            let run = 1 + find::find_any(&field[i + 1..], BACKSLASH, BACKSLASH, BACKSLASH);
             wire::write_bytes(output, to, &field[i..i + run]);
             to += run;
             i += run;

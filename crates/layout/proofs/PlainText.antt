@@ -8,8 +8,8 @@ use native.Mathlib.Omega.{arith}
 use borrow.Author.Tests.{ltb-true, ltb-false}
 use lib.Dec.{ltb}
 use lib.ListN.{length, getD}
-use Rattle.wire.specs.Nul.{untilNul}
-use Rattle.wire.proofs.NulLaws.{until-at}
+use Rattle.find.specs.Nul.{untilNul}
+use Rattle.find.proofs.NulLaws.{until-at}
 use Rattle.utf8.proofs.Laws.{ascii-well-formed}
 use Rattle.layout.specs.Checked.{good}
 use Rattle.layout.specs.TextCheck.{checkWhole}

@@ -8,7 +8,7 @@ use native.Mathlib.Omega.{arith}
 use borrow.Author.Tests.{lt-ltb, le-ltb}
 use lib.ListN.{length}
 use Rattle.utf8.specs.Rfc3629.{wellFormed}
-use Rattle.wire.specs.Nul.{untilNul}
+use Rattle.find.specs.Nul.{untilNul}
 use Rattle.layout.specs.Checked.{Checked, fault, good, check, then}
 use Rattle.layout.specs.Spans.{part}
 use Rattle.layout.specs.TextCheck.{checkWhole, checkText, verdict}

@@ -3,7 +3,7 @@ use mathlib.Core.Bool.{not}
 use mathlib.Core.List.{List}
 use Prim.Native.Nat.{ℕ}
 use Rattle.utf8.specs.Rfc3629.{wellFormed}
-use Rattle.wire.specs.Nul.{hasNul}
+use Rattle.find.specs.Nul.{hasNul}
 use Rattle.layout.specs.Checked.{Checked, fault, good, check}
 use Rattle.layout.specs.Spans.{Span, sideOf, part}
 use Rattle.layout.specs.declared.text_check.Check.{Check}

@@ -52,7 +52,7 @@ pub fn check_whole(text: &[u8]) -> Check
     match validate::validate(text) {
         Utf8::IllFormed(_) => Check::Refused(Refusal::NotUtf8),
         Utf8::WellFormed => {
-            if wire::find_nul(text) == text.len() {
+            if find::find_nul(text) == text.len() {
                 Check::Passed
             } else {
                 Check::Refused(Refusal::InnerNul)

@@ -10,7 +10,7 @@ use borrow.Author.Tests.{eq-eqb, ne-eqb, eqb-true, eqb-false}
 use lib.Dec.{eqb}
 use lib.ListN.{length, getD, drop, drop-of-length-le}
 use lib.Seq.{drop-cons}
-use Rattle.wire.specs.Find.{until}
+use Rattle.find.specs.Find.{until}
 use Rattle.table.specs.declared.tag.Tag.{Tag}
 use Rattle.sheet.specs.Fields.{tab}
 use Rattle.sheet.specs.Lines.{word, split, same, tagAmong}

@@ -12,8 +12,8 @@ use borrow.Author.Tests.{eqb-true}
 use lib.Dec.{eqb}
 use lib.ListN.{length, getD, drop, length-drop, List·getD-eq-default, drop-of-length-le}
 use lib.Seq.{drop-cons, drop-length, drop-drop, getD-drop}
-use Rattle.wire.specs.Find.{until, isAny}
-use Rattle.wire.proofs.FindLaws.{any-one, until-found, until-more, until-least, until-at}
+use Rattle.find.specs.Find.{until, isAny}
+use Rattle.find.proofs.FindLaws.{any-one, until-found, until-more, until-least, until-at}
 use Rattle.sheet.specs.Fields.{backslash, all, isHexDigit, isHexPairs, bytesOfPairs, isEscape, isEscaped, unescape}
 use Rattle.sheet.proofs.Escapes.{plain-is, plain-means, escape-is, escape-means}
 use Rattle.line_reader.specs.Sizes.{textTold}

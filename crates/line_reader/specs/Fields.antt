@@ -1,7 +1,7 @@
 -- A tab, as a search finds it.
 use Prim.Native.Nat.{ℕ}
 use mathlib.Core.Bool.{Bool}
-use Rattle.wire.specs.Find.{isAny}
+use Rattle.find.specs.Find.{isAny}
 use Rattle.sheet.specs.Fields.{tab}
 
 abbrev pub isTab : ℕ → Bool

@@ -4,12 +4,12 @@ ghost use mathlib.Core.Path.{_≡_};
 ghost use Prim.Native.Nat.{_+_, _≤_};
 ghost use lib.Dec.{eqb};
 ghost use lib.ListN.{length, getD, drop};
-ghost use Rattle.wire.specs.Find.{until};
+ghost use Rattle.find.specs.Find.{until};
 ghost use Rattle.sheet.specs.Fields.{tab};
 ghost use Rattle.sheet.specs.Lines.{split, same, tagOfWord};
 ghost use Rattle.line_reader.specs.Fields.{isTab};
+use find::find_any;
 use table::Tag;
-use wire::find_any;
 
 // The tag of a line.
 pub fn tag_of(line: &[u8]) -> Tag

@@ -4,7 +4,7 @@ ghost use Prim.Native.Nat.{_+_, _<_};
 ghost use lib.ListN.{length, getD};
 ghost use Rattle.sheet.specs.Fields.{isEscape};
 ghost use Rattle.line_reader.specs.Sizes.{textTold};
-use wire::find_any;
+use find::find_any;
 
 // How many bytes a field says.
 pub enum FieldSize {

@@ -4,7 +4,7 @@ use Prim.Native.Nat.{ℕ, _+_}
 use mathlib.Core.List.{List, [], _∷_}
 use lib.Dec.{eqb}
 use lib.ListN.{length, drop}
-use Rattle.wire.specs.Find.{until, isAny}
+use Rattle.find.specs.Find.{until, isAny}
 use Rattle.layout.specs.Checked.{Checked, check, then}
 use Rattle.format.specs.Records.{text}
 use Rattle.sheet.specs.Fields.{newline}

@@ -6,7 +6,7 @@
 ghost use mathlib.Core.Path.{_≡_};
 ghost use Prim.Native.Nat.{_+_, min};
 ghost use lib.ListN.{drop};
-ghost use Rattle.wire.specs.Find.{until};
+ghost use Rattle.find.specs.Find.{until};
 ghost use Rattle.sheet.specs.Fields.{newline};
 ghost use Rattle.sheet.specs.FromSheet.{fromSheet};
 ghost use Rattle.sizes.specs.Measure.{sized};
@@ -28,7 +28,7 @@ pub fn line_end(sheet: &[u8], at: usize) -> usize
     if sheet.len() <= at {
         return at;
     }
-    at + wire::find_any(&sheet[at..], NEWLINE, NEWLINE, NEWLINE)
+    at + find::find_any(&sheet[at..], NEWLINE, NEWLINE, NEWLINE)
 }
 
 // The number of the next line; the last that 32 bits hold is that of all after it.

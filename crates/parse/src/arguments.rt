@@ -50,7 +50,7 @@ fn check_any_pair_text(payload: &[u8], at: usize, end: usize) -> MaybeText
     requires { ⌜ length (now payload) ≤ limit ⌝ }
     ensures { λ r. ⌜ r ≡ maybeText (pairText (now (payload .entry)) at end) ⌝ }
 {
-    let count = wire::find_nul(&payload[at..end]);
+    let count = find::find_nul(&payload[at..end]);
     if count == end - at {
         return MaybeText::Refused(Refusal::OpenText);
     }

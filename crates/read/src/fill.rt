@@ -84,9 +84,9 @@ fn pair_row(payload: &[u8], at: usize) -> Row
     requires { ⌜ length (now payload) ≤ limit ⌝ }
     ensures { λ r. ⌜ r ≡ pairAt (now (payload .entry)) at ⌝ }
 {
-    let name = TextLength(wire::find_nul_from(payload, at) as u32);
+    let name = TextLength(find::find_nul_from(payload, at) as u32);
     let start = at + name.wire_size().0;
-    let value = TextLength(wire::find_nul_from(payload, start) as u32);
+    let value = TextLength(find::find_nul_from(payload, start) as u32);
     Row::pair(at as u32, name, start as u32, value)
 }
 

@@ -8,8 +8,8 @@ use native.Mathlib.Omega.{arith}
 use lib.Dec.{eqb}
 use lib.ListN.{length, take, drop, length-drop}
 use lib.Seq.{drop-drop}
-use Rattle.wire.specs.Find.{until, isAny}
-use Rattle.wire.proofs.FindLaws.{any-one, until-found, until-more}
+use Rattle.find.specs.Find.{until, isAny}
+use Rattle.find.proofs.FindLaws.{any-one, until-found, until-more}
 use Rattle.sheet.specs.Lines.{Parts, parts, split}
 
 module _ (separator : ℕ) where

@@ -15,7 +15,7 @@ use Rattle.utf8.specs.declared.Utf8.{Utf8}
 use Rattle.utf8.specs.declared.Utf8.the-variants.{WellFormed, IllFormed}
 use Rattle.utf8.proofs.Alternatives.{lengthAt, class-length}
 use Rattle.utf8.proofs.Laws.{well-formed, not-well-formed}
-use Rattle.wire.specs.Nul.{untilNul, hasNul}
+use Rattle.find.specs.Nul.{untilNul, hasNul}
 use Rattle.layout.specs.TextCheck.{checkWhole}
 use Rattle.sheet.specs.Fields.{tab, newline, backslash, isEscape, meant, isEscaped, unescape}
 use Rattle.sheet.proofs.Escapes.{Field, none, byte, pair, field, plain-means, escape-means}

@@ -6,10 +6,10 @@ use mathlib.Core.Path.{_≡_, refl, ap, _∙_}
 use native.Mathlib.Omega.{arith}
 use lib.ListN.{length, drop, length-drop}
 use lib.Seq.{length-take-le}
+use Rattle.find.specs.Nul.{untilNul}
+use Rattle.find.proofs.NulLaws.{until-length}
 use Rattle.wire.specs.Length.{wireSize}
-use Rattle.wire.specs.Nul.{untilNul}
 use Rattle.wire.specs.Number.{u32At}
-use Rattle.wire.proofs.NulLaws.{until-length}
 use Rattle.layout.proofs.Lists.{flatMap-append}
 use Rattle.format.specs.PublicFacts.{textAt, pairsAt}
 use Rattle.format.specs.Records.{Record, pairRecord}

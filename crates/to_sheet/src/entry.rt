@@ -117,9 +117,9 @@ pub fn write_pairs(payload: &[u8], count: u32, start: usize, output: &mut [u8], 
     let mut next = to;
     let mut done: u32 = 0;
     while done < count {
-        let name = TextLength(wire::find_nul_from(payload, at) as u32);
+        let name = TextLength(find::find_nul_from(payload, at) as u32);
         let value_start = at + name.wire_size().0;
-        let value = TextLength(wire::find_nul_from(payload, value_start) as u32);
+        let value = TextLength(find::find_nul_from(payload, value_start) as u32);
         next = write_pair(payload, at, name, value_start, value, output, next);
         at = value_start + value.wire_size().0;
         done += 1;

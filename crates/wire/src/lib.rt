@@ -4,19 +4,14 @@
 // Proved: every function is total, has no `requires`, and answers or stores just what its definition in
 // specs/ says. Bytes past the end of a slice read as 0, and what would be stored past the end is dropped.
 mod bytes;
-mod find;
 mod length;
-mod nul;
 mod number;
 mod padding;
 
 pub use bytes::write_bytes;
-pub use find::find_any;
 pub use length::Terminated;
 pub use length::TextLength;
 pub use length::WireSize;
-pub use nul::find_nul;
-pub use nul::find_nul_from;
 pub use number::read_u16;
 pub use number::read_u32;
 pub use number::write_u16;

@@ -8,8 +8,8 @@ use native.Mathlib.Omega.{arith}
 use borrow.Author.Needs.{needs}
 use lib.ListN.{length, take, drop, length-drop}
 use lib.Seq.{take-all}
-use Rattle.wire.specs.Find.{until, isAny}
-use Rattle.wire.proofs.FindLaws.{until-past, until-least}
+use Rattle.find.specs.Find.{until, isAny}
+use Rattle.find.proofs.FindLaws.{until-past, until-least}
 use Rattle.sheet.specs.Fields.{newline}
 use Rattle.lines.proofs.line_end.Statement.{statement}
 use Rattle.lines.proofs.line_end.Tie as tie

@@ -6,8 +6,8 @@ use mathlib.Core.Path.{_≡_, refl, sym, ap, ap₂, _∙_}
 use native.Mathlib.Omega.{arith}
 use borrow.Author.Needs.{needs}
 use lib.ListN.{length, take, drop, length-drop}
-use Rattle.wire.specs.Find.{isAny}
-use Rattle.wire.proofs.FindLaws.{until-least}
+use Rattle.find.specs.Find.{isAny}
+use Rattle.find.proofs.FindLaws.{until-least}
 use Rattle.layout.specs.declared.refusal.Refusal.the-variants.{BadLine}
 use Rattle.sheet.specs.Fields.{newline}
 use Rattle.sheet.specs.FromSheet.{badLine}

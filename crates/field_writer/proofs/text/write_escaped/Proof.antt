@@ -7,7 +7,7 @@ use native.Mathlib.Omega.{arith}
 use borrow.Author.Needs.{needs}
 use lib.ListN.{length, getD, take, drop, length-drop}
 use lib.Seq.{sets, take-all}
-use Rattle.wire.specs.Find.{until, isAny}
+use Rattle.find.specs.Find.{until, isAny}
 use Rattle.wire.specs.Number.{bytesOf}
 use Rattle.format.proofs.Storing.{Left, left-all, left-next, left-none}
 use Rattle.sheet.specs.Fields.{tab, newline, backslash, escaped, escape}

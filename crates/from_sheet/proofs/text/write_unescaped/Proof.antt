@@ -8,7 +8,7 @@ use native.Mathlib.Omega.{arith}
 use borrow.Author.Needs.{needs}
 use lib.ListN.{length, getD, set, take, drop, length-drop, length-append, length-set}
 use lib.Seq.{sets, take-all}
-use Rattle.wire.specs.Find.{until, isAny}
+use Rattle.find.specs.Find.{until, isAny}
 use Rattle.format.proofs.Storing.{Left, left-all, left-next, left-none}
 use Rattle.sheet.specs.Fields.{backslash, meant, unescape}
 use Rattle.from_sheet.proofs.Fields.{unescape-pair, unescape-end, Run, run}

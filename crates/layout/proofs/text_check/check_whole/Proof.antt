@@ -10,7 +10,7 @@ use borrow.Author.Needs.{needs}
 use denote.Ref.{now}
 use Rattle.utf8.specs.Rfc3629.{wellFormed}
 use Rattle.utf8.proofs.Laws.{well-formed, not-well-formed}
-use Rattle.wire.proofs.NulLaws.{until-length}
+use Rattle.find.proofs.NulLaws.{until-length}
 use Rattle.layout.specs.TextCheck.{verdict}
 use Rattle.layout.proofs.PlainText.{plain-passes}
 use Rattle.layout.proofs.TextCheck.{whole-not-utf8, whole-inner-nul, whole-passed}

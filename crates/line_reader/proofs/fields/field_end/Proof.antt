@@ -7,8 +7,8 @@ use native.Mathlib.Omega.{arith}
 use borrow.Author.Needs.{needs}
 use denote.Ref.{now}
 use lib.ListN.{length, drop, length-drop}
-use Rattle.wire.specs.Find.{until}
-use Rattle.wire.proofs.FindLaws.{until-least}
+use Rattle.find.specs.Find.{until}
+use Rattle.find.proofs.FindLaws.{until-least}
 use Rattle.line_reader.specs.Fields.{isTab}
 use Rattle.line_reader.proofs.Slices.{from-place}
 use Rattle.line_reader.proofs.fields.field_end.Statement.{statement}

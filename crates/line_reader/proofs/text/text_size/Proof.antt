@@ -9,7 +9,7 @@ use borrow.Author.Needs.{needs}
 use borrow.Author.Tests.{not-true, not-false}
 use denote.Ref.{now}
 use lib.ListN.{length, getD, drop}
-use Rattle.wire.specs.Find.{until}
+use Rattle.find.specs.Find.{until}
 use Rattle.sheet.specs.Fields.{backslash, isEscape}
 use Rattle.line_reader.specs.Sizes.{textTold}
 use Rattle.line_reader.proofs.Slices.{from-place}

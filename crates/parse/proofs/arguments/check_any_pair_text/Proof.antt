@@ -7,8 +7,8 @@ use borrow.Author.Needs.{needs}
 use denote.Ref.{now}
 use mathlib.Core.List.{List}
 use lib.ListN.{length}
-use Rattle.wire.specs.Nul.{untilNul}
-use Rattle.wire.proofs.NulLaws.{until-length}
+use Rattle.find.specs.Nul.{untilNul}
+use Rattle.find.proofs.NulLaws.{until-length}
 use Rattle.utf8.specs.Rfc3629.{utf8Of}
 use Rattle.utf8.proofs.Laws.{well-formed, not-well-formed}
 use Rattle.layout.specs.Spans.{part}

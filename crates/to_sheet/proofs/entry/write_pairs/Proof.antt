@@ -8,9 +8,9 @@ use native.Mathlib.Nat.{sub-zero}
 use native.Mathlib.Omega.{arith}
 use borrow.Author.Needs.{needs}
 use lib.ListN.{length, drop, length-append, length-drop}
+use Rattle.find.specs.Nul.{untilNul}
+use Rattle.find.proofs.NulLaws.{until-length}
 use Rattle.wire.specs.Length.{wireSize}
-use Rattle.wire.specs.Nul.{untilNul}
-use Rattle.wire.proofs.NulLaws.{until-length}
 use Rattle.format.specs.Encoding.{limit}
 use Rattle.format.proofs.Storing.{Left, left-all, left-next, left-none}
 use Rattle.to_sheet.specs.Entry.{sheetLimit, pairLine}

@@ -10,7 +10,7 @@ use native.Mathlib.Omega.{arith}
 use lib.Dec.{eqb}
 use lib.ListN.{length, getD, drop, drop-of-length-le}
 use lib.Seq.{drop-cons}
-use Rattle.wire.specs.Find.{until, isAny}
+use Rattle.find.specs.Find.{until, isAny}
 
 -- a byte that is named three times is one byte
 pub any-one : (a b : ℕ) → isAny a a a b ≡ eqb b a

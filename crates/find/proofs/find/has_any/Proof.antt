@@ -1,4 +1,4 @@
--- `wire::find::has_any` meets its contract: where no byte was found, each was looked for, or is another that was.
+-- `find::find::has_any` meets its contract: where no byte was found, each was looked for, or is another that was.
 -- Assumes nothing.
 use Prim.Native.Nat.{ℕ, _+_, _<_}
 use mathlib.Core.Path.{_≡_}
@@ -8,9 +8,9 @@ use native.Mathlib.Omega.{arith}
 use borrow.Author.Needs.{needs}
 use borrow.Author.Tests.{ne-eqb}
 use lib.ListN.{getD}
-use Rattle.wire.specs.Find.{isAny}
-use Rattle.wire.proofs.find.has_any.Statement.{statement}
-use Rattle.wire.proofs.find.has_any.Tie as tie
+use Rattle.find.specs.Find.{isAny}
+use Rattle.find.proofs.find.has_any.Statement.{statement}
+use Rattle.find.proofs.find.has_any.Tie as tie
 
 -- a byte that is none of three
 none : (b one two three : ℕ) → (b ≡ one → ⊥) → (b ≡ two → ⊥) → (b ≡ three → ⊥) → isAny one two three b ≡ false

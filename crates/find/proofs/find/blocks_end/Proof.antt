@@ -1,13 +1,13 @@
--- `wire::find::blocks_end` meets its contract. The loop's invariant: no block that was passed has one.
+-- `find::find::blocks_end` meets its contract. The loop's invariant: no block that was passed has one.
 -- Assumes nothing.
 use Prim.Native.Nat.{_+_, _≤_, _-_}
 use mathlib.Core.Path.{_≡_, _∙_}
 use native.Mathlib.Omega.{arith}
 use lib.ListN.{length, drop}
-use Rattle.wire.specs.Find.{until, isAny}
-use Rattle.wire.proofs.FindLaws.{until-run}
-use Rattle.wire.proofs.find.blocks_end.Statement.{statement}
-use Rattle.wire.proofs.find.blocks_end.Tie as tie
+use Rattle.find.specs.Find.{until, isAny}
+use Rattle.find.proofs.FindLaws.{until-run}
+use Rattle.find.proofs.find.blocks_end.Statement.{statement}
+use Rattle.find.proofs.find.blocks_end.Tie as tie
 
 abbrev Inv-loop : tie.InvT-loop
 Inv-loop bytes one two three i₀ i = (i ≤ length bytes) × (i + until (isAny one two three) (drop i bytes) ≡ until (isAny one two three) bytes)

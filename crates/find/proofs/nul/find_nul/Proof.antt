@@ -1,10 +1,10 @@
--- `wire::nul::find_nul` meets its contract: a byte that is 0, or 0, or 0, is a NUL.
+-- `find::nul::find_nul` meets its contract: a byte that is 0, or 0, or 0, is a NUL.
 -- Assumes nothing.
 use mathlib.Core.Path.{_∙_}
 use borrow.Author.Needs.{needs}
-use Rattle.wire.proofs.NulLaws.{nul-found}
-use Rattle.wire.proofs.nul.find_nul.Statement.{statement}
-use Rattle.wire.proofs.nul.find_nul.Tie as tie
+use Rattle.find.proofs.NulLaws.{nul-found}
+use Rattle.find.proofs.nul.find_nul.Statement.{statement}
+use Rattle.find.proofs.nul.find_nul.Tie as tie
 
 find-any-requires : tie.Need-find-any-requires
 find-any-requires c κs = search needs

@@ -1,4 +1,4 @@
--- `wire::nul::find_nul_from` meets its contract: a first byte that is 0 is the first NUL, and `find_nul` is shown all from the place on.
+-- `find::nul::find_nul_from` meets its contract: a first byte that is 0 is the first NUL, and `find_nul` is shown all from the place on.
 -- Assumes nothing.
 use Prim.Native.Nat.{ℕ, _-_}
 use mathlib.Core.List.{List}
@@ -7,10 +7,10 @@ use native.Mathlib.Omega.{arith}
 use borrow.Author.Needs.{needs}
 use lib.ListN.{length, take, drop, length-drop}
 use lib.Seq.{take-all}
-use Rattle.wire.specs.Nul.{untilNul}
-use Rattle.wire.proofs.NulLaws.{until-nul, until-past}
-use Rattle.wire.proofs.nul.find_nul_from.Statement.{statement}
-use Rattle.wire.proofs.nul.find_nul_from.Tie as tie
+use Rattle.find.specs.Nul.{untilNul}
+use Rattle.find.proofs.NulLaws.{until-nul, until-past}
+use Rattle.find.proofs.nul.find_nul_from.Statement.{statement}
+use Rattle.find.proofs.nul.find_nul_from.Tie as tie
 
 -- the part from a place to the end is all that is left from there
 until-rest : (p : List ℕ) (at : ℕ) → untilNul (take (length p - at) (drop at p)) ≡ untilNul (drop at p)

@@ -1,9 +1,9 @@
--- `wire::find::find_any` meets its contract: the blocks keep the place of the first NUL, and the last step finds it.
+-- `find::find::find_any` meets its contract: the blocks keep the place of the first of the three, and the last step finds it.
 -- Assumes nothing.
 use mathlib.Core.Path.{_∙_}
 use borrow.Author.Needs.{needs}
-use Rattle.wire.proofs.find.find_any.Statement.{statement}
-use Rattle.wire.proofs.find.find_any.Tie as tie
+use Rattle.find.proofs.find.find_any.Statement.{statement}
+use Rattle.find.proofs.find.find_any.Tie as tie
 
 blocks-end-requires : tie.Need-blocks-end-requires
 blocks-end-requires c κs = search needs

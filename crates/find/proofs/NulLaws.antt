@@ -11,9 +11,9 @@ use lib.Dec.{eqb, ltb, eqb·suc-zero}
 use lib.ListN.{length, getD, take, drop, length-take, List·getD-eq-default}
 use lib.Seq.{drop-cons, drop-nil, getD-take}
 use borrow.Author.Tests.{ne-eqb, ltb-true, ltb-false}
-use Rattle.wire.specs.Find.{until, isAny}
-use Rattle.wire.specs.Nul.{untilNul}
-use Rattle.wire.proofs.FindLaws.{any-one}
+use Rattle.find.specs.Find.{until, isAny}
+use Rattle.find.specs.Nul.{untilNul}
+use Rattle.find.proofs.FindLaws.{any-one}
 
 over : (b : ℕ) (s : List ℕ) → untilNul (suc b ∷ s) ≡ suc (untilNul s)
 unfolding untilNul

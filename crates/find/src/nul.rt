@@ -1,7 +1,7 @@
 // Where a text ends: at the first NUL.
 ghost use mathlib.Core.Path.{_≡_};
 ghost use lib.ListN.{drop};
-ghost use Rattle.wire.specs.Nul.{untilNul};
+ghost use Rattle.find.specs.Nul.{untilNul};
 use crate::find::find_any;
 
 // How many bytes stand before the first NUL; all of them where there is none.

@@ -1,4 +1,4 @@
--- `wire::find::has_byte` meets its contract. The loop's invariant: where none was found, no byte that was passed is the one looked for.
+-- `find::find::has_byte` meets its contract. The loop's invariant: where none was found, no byte that was passed is the one looked for.
 -- Assumes nothing.
 use Prim.Native.Nat.{ℕ, _+_, _≤_, _<_, _-_}
 use mathlib.Core.Path.{_≡_, sym, _∙_}
@@ -7,8 +7,8 @@ use mathlib.Core.Logic.{⊎-elim}
 use native.Mathlib.Omega.{arith}
 use lib.ListN.{getD}
 use borrow.Author.Count.{below-more}
-use Rattle.wire.proofs.find.has_byte.Statement.{statement}
-use Rattle.wire.proofs.find.has_byte.Tie as tie
+use Rattle.find.proofs.find.has_byte.Statement.{statement}
+use Rattle.find.proofs.find.has_byte.Tie as tie
 
 abbrev Inv-loop : tie.InvT-loop
 Inv-loop bytes byte at found₀ k₀ found k =

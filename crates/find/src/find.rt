@@ -7,7 +7,7 @@ ghost use mathlib.Core.Path.{_≡_};
 ghost use mathlib.Core.Bool.{false};
 ghost use Prim.Native.Nat.{ℕ, _+_, _≤_, _<_};
 ghost use lib.ListN.{length, getD, drop};
-ghost use Rattle.wire.specs.Find.{until, isAny};
+ghost use Rattle.find.specs.Find.{until, isAny};
 
 const BLOCK: usize = 16;
 

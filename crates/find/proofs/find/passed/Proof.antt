@@ -1,4 +1,4 @@
--- `wire::find::passed` meets its contract. The loop's invariant: no byte that was passed is one of the three.
+-- `find::find::passed` meets its contract. The loop's invariant: no byte that was passed is one of the three.
 -- Assumes nothing.
 use Prim.Native.Nat.{_+_, _≤_, _-_}
 use mathlib.Core.Path.{_≡_, refl, sym, _∙_}
@@ -6,10 +6,10 @@ use native.Mathlib.Omega.{arith}
 use borrow.Author.Needs.{needs}
 use mathlib.Core.Bool.{true, false}
 use lib.ListN.{length, getD, drop}
-use Rattle.wire.specs.Find.{until, isAny}
-use Rattle.wire.proofs.FindLaws.{until-step, until-here, until-past}
-use Rattle.wire.proofs.find.passed.Statement.{statement}
-use Rattle.wire.proofs.find.passed.Tie as tie
+use Rattle.find.specs.Find.{until, isAny}
+use Rattle.find.proofs.FindLaws.{until-step, until-here, until-past}
+use Rattle.find.proofs.find.passed.Statement.{statement}
+use Rattle.find.proofs.find.passed.Tie as tie
 
 abbrev Inv-loop : tie.InvT-loop
 Inv-loop bytes one two three at i₀ i = (i ≤ length bytes) × (i + until (isAny one two three) (drop i bytes) ≡ at + until (isAny one two three) (drop at bytes))
