@@ -5,7 +5,7 @@
 // once, which costs no more than that of one byte. A loop that looked for three would not be.
 ghost use mathlib.Core.Path.{_≡_};
 ghost use mathlib.Core.Bool.{false};
-ghost use Prim.Native.Nat.{ℕ, _+_, _≤_, _<_};
+ghost use Prim.Native.Nat.{ℕ, _+_, max, _≤_, _<_};
 ghost use lib.ListN.{length, getD, drop};
 ghost use Rattle.find.specs.Find.{until, isAny};
 
@@ -17,6 +17,17 @@ pub fn find_any(bytes: &[u8], one: u8, two: u8, three: u8) -> usize
 {
     let start = blocks_end(bytes, one, two, three);
     passed(bytes, one, two, three, start)
+}
+
+// The next place of a byte, from at on; where there is none the end, or at where that lies past the end.
+pub fn find_from(bytes: &[u8], byte: u8, at: usize) -> usize
+    ensures { λ r. ⌜ r ≤ max at (length (now (bytes .entry))) ⌝ }
+    ensures { λ r. ⌜ r ≡ at + until (isAny byte byte byte) (drop at (now (bytes .entry))) ⌝ }
+{
+    if bytes.len() <= at {
+        return at;
+    }
+    at + find_any(&bytes[at..], byte, byte, byte)
 }
 
 // The place of the first one from at on, or the end where there is none.

@@ -10,16 +10,15 @@ use borrow.Author.Tests.{eq-eqb, ne-eqb, eqb-true, eqb-false}
 use lib.Dec.{eqb}
 use lib.ListN.{length, getD, drop, drop-of-length-le}
 use lib.Seq.{drop-cons}
-use Rattle.find.specs.Find.{until}
+use Rattle.find.specs.Find.{until, isAny}
 use Rattle.table.specs.declared.tag.Tag.{Tag}
 use Rattle.sheet.specs.Fields.{tab}
 use Rattle.sheet.specs.Lines.{word, split, same, tagAmong}
 use Rattle.sheet.proofs.PartsFound.{last-part, next-part}
-use Rattle.line_reader.specs.Fields.{isTab}
 
 -- ---- the fields from a place on, with the end of the part there
 
-module _ (s : List ℕ) (at end : ℕ) (is : end ≡ at + until isTab (drop at s)) where
+module _ (s : List ℕ) (at end : ℕ) (is : end ≡ at + until (isAny tab tab tab) (drop at s)) where
   pub field-none : end ≡ length s → (k : ℕ) → getD (split tab (drop at s) .rest) k [] ≡ []
   field-none e k = rw (last-part tab s at end is e)
 

@@ -1,4 +1,3 @@
-pub mod Slices
 pub mod FieldLaws
 pub mod NumberLaws
 pub mod SizeLaws

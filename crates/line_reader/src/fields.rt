@@ -1,21 +1,20 @@
 // The parts of a line: its word, which tells its tag, and its fields, each after a tab.
 ghost use mathlib.Core.List.{[]};
 ghost use mathlib.Core.Path.{_≡_};
-ghost use Prim.Native.Nat.{_+_, _≤_};
 ghost use lib.Dec.{eqb};
-ghost use lib.ListN.{length, getD, drop};
-ghost use Rattle.find.specs.Find.{until};
+ghost use lib.ListN.{length, getD};
 ghost use Rattle.sheet.specs.Fields.{tab};
 ghost use Rattle.sheet.specs.Lines.{split, same, tagOfWord};
-ghost use Rattle.line_reader.specs.Fields.{isTab};
-use find::find_any;
+use find::find_from;
 use table::Tag;
+
+const TAB: u8 = 9;
 
 // The tag of a line.
 pub fn tag_of(line: &[u8]) -> Tag
     ensures { λ r. ⌜ r ≡ tagOfWord (split tab (now (line .entry)) .first) ⌝ }
 {
-    let end = field_end(line, 0);
+    let end = find_from(line, TAB, 0);
     let word = &line[..end];
     if are_same(word, b"contents") {
         return Tag::PlainContents;
@@ -68,7 +67,7 @@ pub fn field<'a>(line: &'a [u8], index: usize) -> &'a [u8]
     let mut at = 0;
     let mut left = index;
     loop {
-        let tab = field_end(line, at);
+        let tab = find_from(line, TAB, at);
         if tab == line.len() {
             return &line[tab..];
         }
@@ -78,17 +77,8 @@ pub fn field<'a>(line: &'a [u8], index: usize) -> &'a [u8]
         }
         left -= 1;
     }
-    let end = field_end(line, at);
+    let end = find_from(line, TAB, at);
     &line[at..end]
-}
-
-// The place of the next tab from at on; the end where there is none.
-fn field_end(line: &[u8], at: usize) -> usize
-    requires { ⌜ at ≤ length (now line) ⌝ }
-    ensures { λ r. ⌜ r ≤ length (now (line .entry)) ⌝ }
-    ensures { λ r. ⌜ r ≡ at + until isTab (drop at (now (line .entry))) ⌝ }
-{
-    at + find_any(&line[at..], b'\t', b'\t', b'\t')
 }
 
 // Whether a line has so many fields. It stops at the first tab that is too much.
@@ -98,12 +88,12 @@ pub fn has_fields(line: &[u8], count: usize) -> bool
     let mut at = 0;
     let mut left = count;
     while left > 0 {
-        let end = field_end(line, at);
+        let end = find_from(line, TAB, at);
         if end == line.len() {
             return false;
         }
         at = end + 1;
         left -= 1;
     }
-    field_end(line, at) == line.len()
+    find_from(line, TAB, at) == line.len()
 }

@@ -5,9 +5,6 @@
 // sheet, specs/FromSheet.antt), for every byte string. Nothing is assumed.
 ghost use mathlib.Core.Path.{_≡_};
 ghost use Prim.Native.Nat.{_+_, min};
-ghost use lib.ListN.{drop};
-ghost use Rattle.find.specs.Find.{until};
-ghost use Rattle.sheet.specs.Fields.{newline};
 ghost use Rattle.sheet.specs.FromSheet.{fromSheet};
 ghost use Rattle.sizes.specs.Measure.{sized};
 ghost use Rattle.lines.specs.Measure.{lineEnd};
@@ -25,10 +22,7 @@ const LAST: u32 = 0xFFFF_FFFF;
 pub fn line_end(sheet: &[u8], at: usize) -> usize
     ensures { λ r. ⌜ r ≡ lineEnd (now (sheet .entry)) at ⌝ }
 {
-    if sheet.len() <= at {
-        return at;
-    }
-    at + find::find_any(&sheet[at..], NEWLINE, NEWLINE, NEWLINE)
+    find::find_from(sheet, NEWLINE, at)
 }
 
 // The number of the next line; the last that 32 bits hold is that of all after it.

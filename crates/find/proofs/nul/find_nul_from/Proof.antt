@@ -1,20 +1,13 @@
 -- `find::nul::find_nul_from` meets its contract: a first byte that is 0 is the first NUL, and `find_nul` is shown all from the place on.
 -- Assumes nothing.
-use Prim.Native.Nat.{ℕ, _-_}
-use mathlib.Core.List.{List}
-use mathlib.Core.Path.{_≡_, ap, sym, _∙_}
+use mathlib.Core.Path.{ap, sym, _∙_}
 use native.Mathlib.Omega.{arith}
 use borrow.Author.Needs.{needs}
-use lib.ListN.{length, take, drop, length-drop}
-use lib.Seq.{take-all}
 use Rattle.find.specs.Nul.{untilNul}
+use Rattle.find.proofs.Slices.{from-place}
 use Rattle.find.proofs.NulLaws.{until-nul, until-past}
 use Rattle.find.proofs.nul.find_nul_from.Statement.{statement}
 use Rattle.find.proofs.nul.find_nul_from.Tie as tie
-
--- the part from a place to the end is all that is left from there
-until-rest : (p : List ℕ) (at : ℕ) → untilNul (take (length p - at) (drop at p)) ≡ untilNul (drop at p)
-until-rest p at = ap untilNul (take-all (length p - at) (drop at p) (omega (arith, length-drop at p)))
 
 returns : tie.Need-returns
 returns c = let a = c .before .before .args in sym (until-past (a .bytes .now) (a .at) (omega arith))
@@ -23,7 +16,7 @@ returns-2 : tie.Need-returns-2
 returns-2 c = let a = c .before .before .before .before .args in sym (until-nul (a .bytes .now) (a .at) (omega arith))
 
 returns-3 : tie.Need-returns-3
-returns-3 c = let a = c .before .before .before .before .before .before .args in c .find-nul .ensures ∙ until-rest (a .bytes .now) (a .at)
+returns-3 c = let a = c .before .before .before .before .before .before .args in c .find-nul .ensures ∙ ap untilNul (from-place (a .bytes .now) (a .at))
 
 pub find-nul-from-spec : {M : Type 1} → statement M
 find-nul-from-spec =

@@ -7,10 +7,10 @@ use native.Mathlib.Omega.{arith}
 use borrow.Author.Needs.{needs}
 use denote.Ref.{now}
 use lib.ListN.{length, getD, drop, drop-of-length-le}
+use Rattle.find.proofs.Slices.{from-place}
 use Rattle.sheet.specs.Fields.{tab}
 use Rattle.sheet.specs.Lines.{split}
 use Rattle.sheet.proofs.PartsFound.{part-end}
-use Rattle.line_reader.proofs.Slices.{from-place}
 use Rattle.line_reader.proofs.FieldLaws.{field-none, field-first, field-next}
 use Rattle.line_reader.proofs.fields.field.Statement.{statement}
 use Rattle.line_reader.proofs.fields.field.Tie as tie
@@ -24,8 +24,8 @@ abbrev μ-loop : tie.MeasureT-loop
 loop-holds : tie.Need-loop-holds Inv-loop μ-loop
 loop-holds c = (search needs, refl)
 
-field-end-requires : tie.Need-field-end-requires Inv-loop μ-loop
-field-end-requires c κs = search needs
+find-from-requires : tie.Need-find-from-requires Inv-loop μ-loop
+find-from-requires c κs = search needs
 
 sub-result : tie.Need-sub-result Inv-loop μ-loop
 sub-result c = search needs
@@ -36,17 +36,17 @@ part-result-start c = search needs
 part-result-end : tie.Need-part-result-end Inv-loop μ-loop
 part-result-end c = search needs
 
-before-tab : (c : tie.Else1 Inv-loop μ-loop) → c .before .field-end .result < length (now (c .before .before .before .before .args .line))
+before-tab : (c : tie.Else1 Inv-loop μ-loop) → c .before .find-from .result < length (now (c .before .before .before .before .args .line))
 before-tab c = omega arith
 
 returns : tie.Need-returns Inv-loop μ-loop
 returns c =
     let f = c .before .before in
     let line = now (f .before .before .before .args .line) in
-    let end : length line ≤ f .field-end .result = omega arith in
-    from-place line (f .field-end .result) ∙
+    let end : length line ≤ f .find-from .result = omega arith in
+    from-place line (f .find-from .result) ∙
     drop-of-length-le line end ∙
-    sym (field-none line (f .before .loop .at) _ (f .field-end .ensures .1) (c .before .if1 .taken) (f .before .loop .left)) ∙
+    sym (field-none line (f .before .loop .at) _ (f .find-from .ensures .1) (c .before .if1 .taken) (f .before .loop .left)) ∙
     f .before .loop .inv .1
 
 add-at : tie.Need-add-at Inv-loop μ-loop
@@ -62,10 +62,10 @@ loop-again : tie.Need-loop-again Inv-loop μ-loop
 loop-again c =
     let f = c .before .before in
     let some : 0 < f .before .loop .left = omega arith in
-    (omega arith, sym (field-next _ _ _ (f .field-end .ensures .1) (before-tab (c .before)) (f .before .loop .left) some) ∙ f .before .loop .inv .1)
+    (omega arith, sym (field-next _ _ _ (f .find-from .ensures .1) (before-tab (c .before)) (f .before .loop .left) some) ∙ f .before .loop .inv .1)
 
-field-end-requires-2 : tie.Need-field-end-requires-2 Inv-loop μ-loop
-field-end-requires-2 c κs = search needs
+find-from-requires-2 : tie.Need-find-from-requires-2 Inv-loop μ-loop
+find-from-requires-2 c κs = search needs
 
 sub-result-2 : tie.Need-sub-result-2 Inv-loop μ-loop
 sub-result-2 c = search needs
@@ -80,8 +80,8 @@ returns-2 : tie.Need-returns-2 Inv-loop μ-loop
 returns-2 c =
     let f = c .before .before .before .before in
     let none : 0 ≡ f .before .loop .left = omega arith in
-    part-end tab _ _ _ (c .before .field-end2 .ensures .1) ∙
-    sym (field-first _ _ _ (f .field-end .ensures .1) (before-tab (c .before .before .before))) ∙
+    part-end tab _ _ _ (c .before .find-from2 .ensures .1) ∙
+    sym (field-first _ _ _ (f .find-from .ensures .1) (before-tab (c .before .before .before))) ∙
     ap (λ (n : ℕ). getD (split tab (drop (f .before .loop .at) (now (f .before .before .before .args .line))) .rest) n []) none ∙
     f .before .loop .inv .1
 
@@ -92,7 +92,7 @@ field-spec =
     Inv-loop
     μ-loop
     loop-holds
-    field-end-requires
+    find-from-requires
     sub-result
     part-result-start
     part-result-end
@@ -101,7 +101,7 @@ field-spec =
     sub-left
     loop-less
     loop-again
-    field-end-requires-2
+    find-from-requires-2
     sub-result-2
     part-result-start-2
     part-result-end-2

@@ -22,15 +22,15 @@ abbrev μ-loop : tie.MeasureT-loop
 loop-holds : tie.Need-loop-holds Inv-loop μ-loop
 loop-holds c = (omega arith, omega arith, omega arith)
 
-field-end-requires : tie.Need-field-end-requires Inv-loop μ-loop
-field-end-requires c κs = search needs
+find-from-requires : tie.Need-find-from-requires Inv-loop μ-loop
+find-from-requires c κs = search needs
 
 returns : tie.Need-returns Inv-loop μ-loop
 returns c =
-    let e = c .before .field-end .ensures in
+    let e = c .before .find-from .ensures in
     let a = c .before .before .before .before .before .args in
     let line = now (a .line) in
-    let none = count-last line (c .before .before .before .loop .at) (c .before .field-end .result) (e .1) (c .if1 .taken) in
+    let none = count-last line (c .before .before .before .loop .at) (c .before .find-from .result) (e .1) (c .if1 .taken) in
     sym (ne-eqb (length (split tab line .rest)) (a .count) (λ z. omega arith))
 
 add-at : tie.Need-add-at Inv-loop μ-loop
@@ -44,19 +44,19 @@ loop-less c = search needs
 
 loop-again : tie.Need-loop-again Inv-loop μ-loop
 loop-again c =
-    let e = c .before .field-end .ensures in
+    let e = c .before .find-from .ensures in
     let line = now (c .before .before .before .before .before .args .line) in
-    let inside : c .before .field-end .result < length line = omega arith in
-    (omega arith, omega arith, omega (arith, count-tab line (c .before .before .before .loop .at) (c .before .field-end .result) (e .1) inside))
+    let inside : c .before .find-from .result < length line = omega arith in
+    (omega arith, omega arith, omega (arith, count-tab line (c .before .before .before .loop .at) (c .before .find-from .result) (e .1) inside))
 
-field-end-requires-2 : tie.Need-field-end-requires-2 Inv-loop μ-loop
-field-end-requires-2 c κs = search needs
+find-from-requires-2 : tie.Need-find-from-requires-2 Inv-loop μ-loop
+find-from-requires-2 c κs = search needs
 
 returns-2 : tie.Need-returns-2 Inv-loop μ-loop
 returns-2 c =
-    let e = c .field-end2 .ensures in
+    let e = c .find-from2 .ensures in
     let a = c .before .before .before .before .args in
-    count-done (now (a .line)) (c .before .before .loop .at) (c .field-end2 .result) (e .1) (e .0) (length (split tab (now (a .line)) .rest)) (a .count) (omega arith)
+    count-done (now (a .line)) (c .before .before .loop .at) (c .find-from2 .result) (e .1) (omega arith) (length (split tab (now (a .line)) .rest)) (a .count) (omega arith)
 
 pub has-fields-spec : {M : Type 1} → statement M
 has-fields-spec =
@@ -65,11 +65,11 @@ has-fields-spec =
     Inv-loop
     μ-loop
     loop-holds
-    field-end-requires
+    find-from-requires
     returns
     add-at
     sub-left
     loop-less
     loop-again
-    field-end-requires-2
+    find-from-requires-2
     returns-2)

@@ -4,6 +4,7 @@ use Prim.Native.Nat.{ℕ}
 use mathlib.Core.List.{List}
 use mathlib.Core.Path.{_≡_, sym, ap, _∙_}
 use native.Mathlib.Nat.{zero-add}
+use native.Mathlib.Omega.{arith}
 use borrow.Author.Needs.{needs}
 use denote.Ref.{now}
 use lib.ListN.{take, drop}
@@ -18,18 +19,18 @@ use Rattle.line_reader.proofs.fields.tag_of.Statement.{statement}
 use Rattle.line_reader.proofs.fields.tag_of.Tie as tie
 
 slice-aggregate-word : tie.Need-slice-aggregate-word
-slice-aggregate-word c = sym (length-take-le _ _ (c .before .field-end .ensures .0))
+slice-aggregate-word c = sym (length-take-le _ _ (omega arith))
 
 -- the first so many tags do not have the word
-abbrev Past : ℕ → tie.After-field-end → Type 0
+abbrev Past : ℕ → tie.After-find-from → Type 0
 Past n c =
     let line : List ℕ = now (c .before .before .args .line) in
-    tagOfWord (split tab line .first) ≡ tagAmong (drop n tags) (take (c .field-end .result) line)
+    tagOfWord (split tab line .first) ≡ tagAmong (drop n tags) (take (c .find-from .result) line)
 
-past-0 : (c : tie.After-field-end) → Past 0 c
+past-0 : (c : tie.After-find-from) → Past 0 c
 past-0 c =
     let line = now (c .before .before .args .line) in
-    ap tagOfWord (first-part tab line ∙ sym (ap (λ (n : ℕ). take n line) (c .field-end .ensures .1 ∙ zero-add _)))
+    ap tagOfWord (first-part tab line ∙ sym (ap (λ (n : ℕ). take n line) (c .find-from .ensures .1 ∙ zero-add _)))
 
 returns : tie.Need-returns
 unfolding ascii

@@ -10,9 +10,9 @@ use borrow.Author.Tests.{not-true, not-false}
 use denote.Ref.{now}
 use lib.ListN.{length, getD, drop}
 use Rattle.find.specs.Find.{until}
+use Rattle.find.proofs.Slices.{from-place}
 use Rattle.sheet.specs.Fields.{backslash, isEscape}
 use Rattle.line_reader.specs.Sizes.{textTold}
-use Rattle.line_reader.proofs.Slices.{from-place}
 use Rattle.line_reader.proofs.SizeLaws.{slash, text-done, run-inside, text-last, text-before, slash-found, escape-inside, text-escape, text-bad}
 use Rattle.line_reader.proofs.text.text_size.Statement.{statement}
 use Rattle.line_reader.proofs.text.text_size.Tie as tie
