@@ -13,14 +13,14 @@
 //! - reading sheets: that of lines and fields by `split`, and of `write_payload`.
 use crate::boundaries::LIMIT;
 use crate::call::{
-    card, list, make, public_copy, read, to_sheet, write, Job, UNTOUCHED,
+    card, from_sheet, list, make, public_copy, read, to_sheet, write, Job, UNTOUCHED,
     UNTOUCHED_BYTE,
 };
 use crate::compare::WIDTH;
 use crate::payloads::{arguments, contents, names, packed, payload, Random};
 use crate::rust_made::{document, make_public};
 use crate::rust_rows::rows_of;
-use crate::rust_sheet::sheet_of;
+use crate::rust_sheet::{read_sheet, sheet_of};
 use chunks::srci::parse_srci;
 use chunks::ChunkWriter;
 use std::hint::black_box;
@@ -111,6 +111,19 @@ pub fn run() {
     growth("making sheets", &inputs, |payload| {
         output_time(to_sheet, payload)
     });
+    table(
+        "reading sheets",
+        "bytes of the payload",
+        &inputs,
+        |input, payload| made_row(input, &sheet(payload), from_sheet, rust_from_sheet),
+    );
+    growth("reading sheets", &inputs, |payload| {
+        output_time(from_sheet, &sheet(payload))
+    });
+}
+
+fn sheet(payload: &[u8]) -> Vec<u8> {
+    make(to_sheet, payload).unwrap()
 }
 
 /// Nanoseconds for each byte of the payload, at each part of the limit.
@@ -244,6 +257,12 @@ fn rust_to_sheet(payload: &[u8], done: &mut dyn FnMut(&[u8])) {
     let parsed = black_box(parse_srci(black_box(payload))).unwrap();
     let sheet = black_box(sheet_of(&parsed));
     done(sheet.as_bytes());
+}
+
+fn rust_from_sheet(sheet: &[u8], done: &mut dyn FnMut(&[u8])) {
+    let document = black_box(read_sheet(black_box(sheet))).unwrap();
+    let payload = black_box(document.write_payload());
+    done(&payload);
 }
 
 fn made_row(input: &str, bytes: &[u8], job: Job, rust: Rust) {

@@ -1,6 +1,19 @@
 //! Calls of the C entry points, as the Rust package declares them.
 
-use srci::sys;
+/// All that the package declares, and the way in, which it does not declare.
+mod sys {
+    pub use srci::sys::*;
+
+    extern "C" {
+        pub fn srci_from_sheet(
+            sheet: *const u8,
+            sheet_length: usize,
+            output: *mut u8,
+            output_length: usize,
+            second: *mut u32,
+        ) -> u32;
+    }
+}
 
 pub struct Answer {
     pub number: u32,
@@ -65,22 +78,7 @@ job!(list, srci_list);
 job!(public_copy, srci_public_copy);
 job!(card, srci_card);
 job!(to_sheet, srci_to_sheet);
-
-/// The way back from a sheet has no entry point yet: the reading over the Rust stands in for it, so that sheets are read
-/// and go out again. Nothing is said here of any other reading.
-pub fn from_sheet(sheet: &[u8], output: &mut [u8]) -> Answer {
-    let answer = |number, second| Answer { number, second };
-    match crate::rust_sheet::from_sheet(sheet) {
-        Err((number, second)) => answer(number, second),
-        Ok(payload) => match output.get_mut(..payload.len()) {
-            Some(room) => {
-                room.copy_from_slice(&payload);
-                answer(0, payload.len() as u32)
-            }
-            None => answer(19, payload.len() as u32),
-        },
-    }
-}
+job!(from_sheet, srci_from_sheet);
 
 pub type Job = fn(&[u8], &mut [u8]) -> Answer;
 

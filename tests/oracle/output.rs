@@ -129,14 +129,16 @@ impl Calls {
         self.by_number[number as usize] += 1;
     }
 
-    /// How many calls had each of these numbers.
+    /// How many calls had each of these numbers. The boundaries alone meet each of them.
     pub fn print(&self, numbers: impl IntoIterator<Item = usize>) {
         println!(
             "{} calls, all as they should be; by their number:",
             self.calls
         );
         for number in numbers {
-            println!("  {number:2}: {}", self.by_number[number]);
+            let calls = self.by_number[number];
+            println!("  {number:2}: {calls}");
+            assert!(calls > 0, "no call had the number {number}");
         }
     }
 }

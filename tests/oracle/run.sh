@@ -2,7 +2,7 @@
 # Builds the oracle from this folder, srci.rs and libsrci.a, and runs it.
 #
 #   tests/oracle/run.sh PATH_TO_SRCI_RS COUNT SEED          compare reading, writing, listing, public copies, cards and sheets, one after the other: every boundary, then COUNT random payloads or tables, and sheets; then COUNT pairs of payloads
-#   tests/oracle/run.sh PATH_TO_SRCI_RS bench               time reading against parse_srci, writing against write_payload, listing against parse_srci with Display, public copies against parse_srci with write_payload, cards against such a copy with its listing, and making sheets against parse_srci with Strings
+#   tests/oracle/run.sh PATH_TO_SRCI_RS bench               time reading against parse_srci, writing against write_payload, listing against parse_srci with Display, public copies against parse_srci with write_payload, cards against such a copy with its listing, making sheets against parse_srci with Strings, and reading sheets against split with write_payload
 #   tests/oracle/run.sh PATH_TO_SRCI_RS rows COUNT SEED     print calls of reading with the answers that the Rust gives
 #   tests/oracle/run.sh PATH_TO_SRCI_RS listings COUNT SEED print calls of listing with the answers that the Rust gives
 #   tests/oracle/run.sh PATH_TO_SRCI_RS copies COUNT SEED   print calls of making public copies with the answers that the Rust gives

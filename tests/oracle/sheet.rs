@@ -1,8 +1,10 @@
-//! Compares `srci_to_sheet` with a sheet that is made over the Rust, and holds it to a reading of sheets over the Rust: a
-//! payload comes back from its sheet, and a sheet that is accepted from its payload. No reading of ours is compared here.
+//! Compares `srci_to_sheet` and `srci_from_sheet` with a sheet that is made and read over the Rust, and holds them to
+//! each other: a payload comes back from its sheet, and a sheet that is accepted from its payload.
+use crate::boundaries::LIMIT;
 use crate::call::{from_sheet, make, to_sheet};
 use crate::compare::{fail, Compare};
-use crate::output::Outputs;
+use crate::copy;
+use crate::output::{Calls, Outputs};
 use crate::payloads::Random;
 use crate::rust_rows::catch;
 use crate::rust_sheet;
@@ -13,7 +15,9 @@ pub struct SheetTotals {
     payloads_back: u64,
     sheets: u64,
     accepted: u64,
+    inward: Calls,
     sheets_back: u64,
+    followed: u64,
 }
 
 impl SheetTotals {
@@ -23,7 +27,9 @@ impl SheetTotals {
             payloads_back: 0,
             sheets: 0,
             accepted: 0,
+            inward: Calls::new(from_sheet, copy::shorter),
             sheets_back: 0,
+            followed: 0,
         }
     }
 
@@ -37,9 +43,28 @@ impl SheetTotals {
                     damage_sheet(random, &mut sheet);
                 }
             }
-            self.compare_sheet(&sheet);
-            if let Ok(payload) = make(from_sheet, &sheet) {
-                self.outward.compare(&payload);
+            let numbers = self.compare_sheet(&sheet);
+            match make(from_sheet, &sheet) {
+                Ok(payload) => self.outward.compare(&payload),
+                Err(_) => self.compare_followed(random, &sheet, numbers),
+            }
+        }
+    }
+
+    /// What follows a sheet's first faulty line changes neither of its numbers. One that is not closed has nothing after
+    /// it, and 18 is no line's fault.
+    fn compare_followed(&mut self, random: &mut Random, sheet: &[u8], numbers: (u32, u32)) {
+        let ends = (1..=sheet.len()).filter(|&end| sheet[end - 1] == b'\n');
+        let is_faulty =
+            |part: &&[u8]| matches!(rust_sheet::read_sheet(part), Err((11 | 12 | 20, _)));
+        if let Some(part) = ends.map(|end| &sheet[..end]).find(is_faulty) {
+            let length = random.below(40);
+            for rest in [vec![], random.bytes(length), any_sheet(random)] {
+                let followed = [part, &rest].concat();
+                if self.compare_sheet(&followed) != numbers {
+                    fail(&followed, 0, "its first faulty line does not decide");
+                }
+                self.followed += 1;
             }
         }
     }
@@ -51,6 +76,7 @@ impl SheetTotals {
         match catch(|| rust_sheet::from_sheet(sheet)) {
             Some(Ok(payload)) => {
                 self.accepted += 1;
+                self.inward.expect_made(sheet, &payload);
                 if make(to_sheet, &payload).as_deref() != Ok(sheet) {
                     fail(sheet, 0, "its payload has another sheet");
                 }
@@ -58,6 +84,12 @@ impl SheetTotals {
                 (0, payload.len() as u32)
             }
             Some(Err((number, second))) => {
+                // a line makes at most 4 times its length: what the lines before a fault make, and what is just too
+                // long, would find room in the last
+                let longest = (8 + 4 * sheet.len()).min(LIMIT) + 1_000;
+                for lent in [0, 8, longest] {
+                    self.inward.expect(sheet, lent, number, second, &[]);
+                }
                 (number, second)
             }
             None => fail(sheet, 0, "the Rust panics where no rule is broken"),
@@ -75,9 +107,14 @@ impl SheetTotals {
             "  {} accepted by the rules, and written by the Rust",
             self.accepted
         );
+        self.inward.print([0, 11, 12, 18, 19, 20]);
         println!(
             "{} sheets that come back from their payloads",
             self.sheets_back
+        );
+        println!(
+            "{} sheets with other lines after the first faulty one, and the same answer",
+            self.followed
         );
     }
 }

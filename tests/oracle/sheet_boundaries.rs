@@ -779,6 +779,21 @@ fn at_the_limits(totals: &mut SheetTotals) {
         [many.as_bytes(), b"name\t0\t\xFF\n"].concat(),
     );
     must(totals, 12, 0, format!("{many}name\t0\t\0\nbad"));
+    // a faulty line's number where 16 bits end
+    let few = "arguments\n".to_string() + &"pair\t\t\n".repeat(65_533);
+    for more in 0..4 {
+        let before = few.clone() + &"pair\t\t\n".repeat(more);
+        let line = 65_535 + more as u32;
+        must(totals, 20, line, format!("{before}bad\n"));
+        must(totals, 20, line, format!("{before}pair\t\t"));
+        must(
+            totals,
+            11,
+            0,
+            [before.as_bytes(), b"pair\t\t\xFF\nbad\n"].concat(),
+        );
+        must_accept(totals, before);
+    }
     // entry bytes, with escapes that count as one byte, too
     for length in 65_500usize..65_535 {
         let entry = (16 + length + 1).div_ceil(4) * 4;

@@ -54,7 +54,7 @@ pub fn any_sheet(random: &mut Random) -> Vec<u8> {
             _ => continue,
         };
         for text in &mut line[texts] {
-            for _ in 0..[0, 0, 1, 2, 5][random.below(5)] {
+            for _ in 0..[0, 0, 1, 2, 5, 40][random.below(6)] {
                 let piece = text_piece(random);
                 // the ends lie between characters, and between escapes
                 if random.one_in(2) {
@@ -122,14 +122,14 @@ pub fn damage_sheet(random: &mut Random, sheet: &mut Vec<u8>) {
     }
 }
 
-/// Moves, repeats, drops, swaps or adds a line.
+/// Moves, repeats, drops, swaps, joins or adds a line.
 fn damage_lines(random: &mut Random, sheet: &mut Vec<u8>) {
     let mut lines = lines_of(sheet);
     if lines.is_empty() {
         return;
     }
     let [one, two] = [0; 2].map(|_| random.below(lines.len()));
-    match random.below(6) {
+    match random.below(7) {
         0 => {
             let line = lines.remove(one);
             lines.insert(two, line);
@@ -140,6 +140,11 @@ fn damage_lines(random: &mut Random, sheet: &mut Vec<u8>) {
         }
         3 => lines.swap(one, two),
         4 => lines.insert(one, vec![vec![]]),
+        5 if one > 0 => {
+            // a tab for the newline between
+            let fields = lines.remove(one);
+            lines[one - 1].extend(fields);
+        }
         // an entry of any kind, well formed
         _ => lines.insert(
             one,
