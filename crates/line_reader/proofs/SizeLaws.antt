@@ -1,6 +1,6 @@
--- The laws of the sizes of fields: of bytes a digit at a time, of a text from one backslash to the next.
+-- The laws of the sizes of fields: of bytes a digit at a time, of a text an escape or a run at a time.
 -- Assumes nothing.
-use Prim.Native.Nat.{ℕ, zero, suc, _+_, _/_, _%_, _≤_, _<_}
+use Prim.Native.Nat.{ℕ, zero, suc, _+_, _-_, _/_, _%_, _≤_, _<_}
 use mathlib.Core.Bool.{Bool, true, false, _&&_, and-true}
 use mathlib.Core.List.{List, [], _∷_}
 use mathlib.Core.Path.{_≡_, refl, sym, ap, _∙_}
@@ -8,12 +8,12 @@ use native.Mathlib.Decide.{decLe}
 use native.Mathlib.Nat.{add-zero}
 use native.Mathlib.Numerals.{add-one}
 use native.Mathlib.Omega.{arith}
-use borrow.Author.Tests.{eqb-true}
+use borrow.Author.Tests.{ne-eqb}
 use lib.Dec.{eqb}
-use lib.ListN.{length, getD, drop, length-drop, List·getD-eq-default, drop-of-length-le}
-use lib.Seq.{drop-cons, drop-length, drop-drop, getD-drop}
+use lib.ListN.{length, getD, drop, List·getD-eq-default, drop-of-length-le}
+use lib.Seq.{drop-cons, drop-drop}
 use Rattle.find.specs.Find.{until, isAny}
-use Rattle.find.proofs.FindLaws.{any-one, until-found, until-more, until-least, until-at}
+use Rattle.find.proofs.FindLaws.{any-one, until-found, until-more, until-step}
 use Rattle.sheet.specs.Fields.{backslash, all, isHexDigit, isHexPairs, bytesOfPairs, isEscape, isEscaped, unescape}
 use Rattle.sheet.proofs.Escapes.{plain-is, plain-means, escape-is, escape-means}
 use Rattle.line_reader.specs.Sizes.{textTold}
@@ -58,7 +58,7 @@ digits-done good f i h e = sym e ∙ rw (drop-of-length-le f h, and-true)
 
 -- ---- a text
 
-abbrev pub slash : ℕ → Bool
+abbrev slash : ℕ → Bool
 slash b = isAny 92 92 92 b
 
 -- bytes before the first backslash stand for themselves
@@ -78,29 +78,18 @@ text-run n (suc m) (b ∷ s) h = go (eqb b backslash) refl (text-run (n + 1) m s
         let all : n + 1 + m ≡ n + suc m = omega arith in
         rw (plain-is b s e, plain-means b s e, one, ← all) (more (omega (arith, until-more slash b s (any-one 92 b ∙ e))))
 
-text-end : (n : ℕ) (s : List ℕ) → length s ≤ until slash s → textTold n s ≡ Size (n + length s)
-unfolding isEscaped unescape
-text-end n s h = text-run n (length s) s h ∙ rw (drop-length s, add-zero)
-
--- from a place on, with the bytes before the next backslash
-module _ (n : ℕ) (s : List ℕ) (at run : ℕ) (h : at ≤ length s) (is : run ≡ until slash (drop at s)) where
-  pub run-inside : at + run ≤ length s
-  run-inside = omega (arith, until-least slash (drop at s), length-drop at s)
-
-  pub text-last : at + run ≡ length s → textTold n (drop at s) ≡ Size (n + run)
-  text-last e =
-      let whole : length (drop at s) ≡ run = length-drop at s ∙ omega arith in
-      text-end n (drop at s) (omega arith) ∙ ap (λ (m : ℕ). Size (n + m)) whole
-
-  pub text-before : textTold n (drop at s) ≡ textTold (n + run) (drop (at + run) s)
-  text-before = text-run n run (drop at s) (omega arith) ∙ ap (textTold (n + run)) (drop-drop run at s)
-
-  pub slash-found : at + run < length s → getD s (at + run) 0 ≡ backslash
-  slash-found l =
-      let b : ℕ = getD s (at + run) 0 in
-      let there : b ≡ getD (drop at s) (until slash (drop at s)) 0 = sym (getD-drop at s run 0) ∙ ap (λ (k : ℕ). getD (drop at s) k 0) is in
-      let here : slash b ≡ true = ap slash there ∙ until-at slash (drop at s) (omega (arith, length-drop at s)) in
-      eqb-true b backslash (sym (any-one 92 b) ∙ here)
+-- a byte that stands for itself, with those after it before the next backslash
+pub text-plain :
+    (n : ℕ) (s : List ℕ) (at end : ℕ) →
+    at < length s →
+    (getD s at 0 ≡ backslash → ⊥) →
+    end ≡ at + 1 + until slash (drop (at + 1) s) →
+    textTold n (drop at s) ≡ textTold (n + (end - at)) (drop end s)
+text-plain n s at end h plain is =
+    let none : slash (getD s at 0) ≡ false = any-one 92 (getD s at 0) ∙ ne-eqb (getD s at 0) backslash plain in
+    let past : at + (end - at) ≡ end = omega arith in
+    text-run n (end - at) (drop at s) (omega (arith, until-step slash s at h none)) ∙
+    ap (textTold (n + (end - at))) (drop-drop (end - at) at s ∙ ap (λ (k : ℕ). drop k s) past)
 
 pub text-done : (n : ℕ) (s : List ℕ) (at : ℕ) → length s ≤ at → textTold n (drop at s) ≡ Size n
 unfolding isEscaped unescape

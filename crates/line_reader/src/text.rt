@@ -4,7 +4,7 @@ ghost use Prim.Native.Nat.{_+_, _<_};
 ghost use lib.ListN.{length, getD};
 ghost use Rattle.sheet.specs.Fields.{isEscape};
 ghost use Rattle.line_reader.specs.Sizes.{textTold};
-use find::find_any;
+use find::find_from;
 
 // How many bytes a field says.
 pub enum FieldSize {
@@ -12,23 +12,25 @@ pub enum FieldSize {
     Malformed,
 }
 
-// How many bytes a text has with its escapes resolved. It goes from one backslash to the next.
+// How many bytes a text has with its escapes resolved. An escape is passed where it stands; bytes that stand for
+// themselves are counted in runs, up to the next backslash.
 pub fn text_size(field: &[u8]) -> FieldSize
     ensures { λ r. ⌜ r ≡ textTold 0 (now (field .entry)) ⌝ }
 {
     let mut size = 0;
     let mut at = 0;
     while at < field.len() {
-        let run = find_any(&field[at..], b'\\', b'\\', b'\\');
-        let end = at + run;
-        if end == field.len() {
-            return FieldSize::Size(size + run);
+        if field[at] == b'\\' {
+            if !is_escape(field, at) {
+                return FieldSize::Malformed;
+            }
+            size += 1;
+            at += 2;
+        } else {
+            let end = find_from(field, b'\\', at + 1);
+            size += end - at;
+            at = end;
         }
-        if !is_escape(field, end) {
-            return FieldSize::Malformed;
-        }
-        size = size + run + 1;
-        at = end + 2;
     }
     FieldSize::Size(size)
 }
