@@ -1,3 +1,4 @@
+pub mod Ends
 pub mod Numbers
 pub mod Sizes
 pub mod LineTold

@@ -6,11 +6,14 @@ ghost use Rattle.layout.specs.declared.refusal.Refusal.the-variants.{BadLine};
 ghost use Rattle.format.specs.Records.{numberCount, textCount, isPlaced};
 ghost use Rattle.sheet.specs.Fields.{tab};
 ghost use Rattle.sheet.specs.Lines.{split, checkAll, readLine};
+ghost use Rattle.line_reader.specs.Ends.{endsOf};
 ghost use Rattle.line_reader.specs.LineTold.{isBetween, sizedTold, lineSizes, textFields, lineTold};
 use crate::bytes::bytes_size;
-use crate::fields::field;
-use crate::fields::has_fields;
-use crate::fields::tag_of;
+use crate::fields::Ends;
+use crate::fields::ends_of;
+use crate::fields::field_by;
+use crate::fields::has_fields_by;
+use crate::fields::tag_by;
 use crate::number::MaybeNumber;
 use crate::number::read_number;
 use crate::text::FieldSize;
@@ -39,16 +42,17 @@ const LARGEST: u32 = 0xFFFF_FFFF;
 pub fn check_line(line: &[u8], previous: Tag, number: u32) -> LineCheck
     ensures { λ r. ⌜ r ≡ lineTold (readLine (BadLine number) previous (now (line .entry))) ⌝ }
 {
-    let tag = tag_of(line);
+    let ends = ends_of(line);
+    let tag = tag_by(line, ends.word);
     if !is_placed(previous, tag) {
         return LineCheck::Refused(Refusal::BadLine(number));
     }
-    if !has_fields(line, field_count(tag)) {
+    if !has_fields_by(line, ends, field_count(tag)) {
         return LineCheck::Refused(Refusal::BadLine(number));
     }
-    match measure(line, tag, number) {
+    match measure(line, ends, tag, number) {
         LineCheck::Refused(refusal) => LineCheck::Refused(refusal),
-        LineCheck::Line(sizes) => match check_texts(line, tag) {
+        LineCheck::Line(sizes) => match check_texts(line, ends, tag) {
             Check::Refused(refusal) => LineCheck::Refused(refusal),
             Check::Passed => LineCheck::Line(sizes),
         },
@@ -80,7 +84,8 @@ fn field_count(tag: Tag) -> usize
 }
 
 // The sizes of a line of a tag by its fields, where each is one.
-fn measure(line: &[u8], tag: Tag, number: u32) -> LineCheck
+fn measure(line: &[u8], ends: Ends, tag: Tag, number: u32) -> LineCheck
+    requires { ⌜ ends ≡ endsOf (now line) ⌝ }
     ensures { λ r. ⌜ r ≡ lineSizes (BadLine number) tag (split tab (now (line .entry)) .rest) ⌝ }
 {
     let none = FieldSize::Size(0);
@@ -89,32 +94,38 @@ fn measure(line: &[u8], tag: Tag, number: u32) -> LineCheck
             sized(
                 tag,
                 number,
-                is_between(field(line, 0), 0, LARGEST),
+                is_between(field_by(line, ends, 0), 0, LARGEST),
                 none,
                 none,
             )
         }
         Tag::PackedContents => {
-            let numbers = is_between(field(line, 0), 0, LARGEST)
-                & is_between(field(line, 1), 0, LARGEST)
-                & is_between(field(line, 2), 0, LARGEST);
-            sized(tag, number, numbers, bytes_size(field(line, 3)), none)
+            let numbers = is_between(field_by(line, ends, 0), 0, LARGEST)
+                & is_between(field_by(line, ends, 1), 0, LARGEST)
+                & is_between(field_by(line, ends, 2), 0, LARGEST);
+            sized(
+                tag,
+                number,
+                numbers,
+                bytes_size(field_by(line, ends, 3)),
+                none,
+            )
         }
         Tag::Names => sized(tag, number, true, none, none),
         Tag::Arguments => sized(tag, number, true, none, none),
         Tag::Unknown => {
-            let bytes = field(line, 1);
-            let ruled = is_between(field(line, 0), 3, 65535) & (bytes.len() / 2 % 4 == 0);
+            let bytes = field_by(line, ends, 1);
+            let ruled = is_between(field_by(line, ends, 0), 3, 65535) & (bytes.len() / 2 % 4 == 0);
             sized(tag, number, ruled, bytes_size(bytes), none)
         }
-        Tag::Content => sized(tag, number, true, text_size(field(line, 0)), none),
+        Tag::Content => sized(tag, number, true, text_size(field_by(line, ends, 0)), none),
         Tag::Name => {
-            let good = is_between(field(line, 0), 0, LARGEST);
-            sized(tag, number, good, text_size(field(line, 1)), none)
+            let good = is_between(field_by(line, ends, 0), 0, LARGEST);
+            sized(tag, number, good, text_size(field_by(line, ends, 1)), none)
         }
         Tag::Pair => {
-            let first = text_size(field(line, 0));
-            sized(tag, number, true, first, text_size(field(line, 1)))
+            let first = text_size(field_by(line, ends, 0));
+            sized(tag, number, true, first, text_size(field_by(line, ends, 1)))
         }
         Tag::None => sized(tag, number, true, none, none),
     }
@@ -148,15 +159,16 @@ fn is_between(field: &[u8], least: u32, most: u32) -> bool
 }
 
 // The texts of a line of a tag, in order. Escapes and what they stand for are ASCII, so that each is checked as it stands.
-fn check_texts(line: &[u8], tag: Tag) -> Check
+fn check_texts(line: &[u8], ends: Ends, tag: Tag) -> Check
+    requires { ⌜ ends ≡ endsOf (now line) ⌝ }
     ensures { λ r. ⌜ r ≡ verdict (checkAll (textFields tag (split tab (now (line .entry)) .rest))) ⌝ }
 {
     match tag {
-        Tag::Content => check_whole(field(line, 0)),
-        Tag::Name => check_whole(field(line, 1)),
-        Tag::Pair => match check_whole(field(line, 0)) {
+        Tag::Content => check_whole(field_by(line, ends, 0)),
+        Tag::Name => check_whole(field_by(line, ends, 1)),
+        Tag::Pair => match check_whole(field_by(line, ends, 0)) {
             Check::Refused(refusal) => Check::Refused(refusal),
-            Check::Passed => check_whole(field(line, 1)),
+            Check::Passed => check_whole(field_by(line, ends, 1)),
         },
         Tag::PlainContents => Check::Passed,
         Tag::PackedContents => Check::Passed,

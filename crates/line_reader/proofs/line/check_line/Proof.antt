@@ -1,6 +1,6 @@
 -- `check_line` meets its contract: the tag, the place and the count decide first, then the sizes, then the texts.
 -- Assumes nothing.
-use mathlib.Core.Path.{_≡_, refl, ap₂, sym, _∙_}
+use mathlib.Core.Path.{_≡_, refl, ap, ap₂, sym, _∙_}
 use borrow.Author.Needs.{needs}
 use borrow.Author.Tests.{eqb-true, eqb-false, not-true, not-false}
 use denote.Ref.{now}
@@ -9,34 +9,38 @@ use Rattle.layout.specs.declared.refusal.Refusal.the-variants.{BadLine}
 use Rattle.sheet.specs.Fields.{tab}
 use Rattle.sheet.specs.Lines.{split, checkAll, readLine}
 use Rattle.line_reader.specs.LineTold.{textFields, lineTold}
+use Rattle.line_reader.specs.declared.fields.Ends.{Ends}
 use Rattle.line_reader.proofs.LineLaws.{joined, line-misplaced, line-miscounted, line-joined}
 use Rattle.line_reader.proofs.line.check_line.Statement.{statement}
 use Rattle.line_reader.proofs.line.check_line.Tie as tie
 
+tag-by-requires : tie.Need-tag-by-requires
+tag-by-requires c κs = ap (λ (e : Ends). e .word) (c .ends-of .ensures)
+
 returns : tie.Need-returns
 unfolding readLine
 returns c =
-    rw (← c .before .before .tag-of .ensures)
+    rw (← c .before .before .tag-by .ensures)
     (sym (line-misplaced _ _ _ _ (sym (c .before .is-placed .ensures) ∙ not-true _ (c .if1 .taken))))
 
 returns-2 : tie.Need-returns-2
 unfolding readLine
 returns-2 c =
-    let other = sym (c .before .has-fields .ensures) ∙ not-true _ (c .if2 .taken) in
-    rw (← c .before .before .before .before .before .tag-of .ensures)
+    let other = sym (c .before .has-fields-by .ensures) ∙ not-true _ (c .if2 .taken) in
+    rw (← c .before .before .before .before .before .tag-by .ensures)
     (sym (line-miscounted _ _ _ _ (λ e. eqb-false _ _ other (e ∙ sym (c .before .before .field-count .ensures)))))
 
 -- the line by its sizes and its texts
 told :
     (c : tie.After-measure) →
-    (let a = c .before .before .before .before .before .before .before .before .args in
+    (let a = c .before .before .before .before .before .before .before .before .before .args in
     let fields = split tab (now (a .line)) .rest in
-    lineTold (readLine (BadLine (a .number)) (a .previous) (now (a .line))) ≡ joined (c .measure .result) (verdict (checkAll (textFields (c .before .before .before .before .before .before .tag-of .result) fields))))
+    lineTold (readLine (BadLine (a .number)) (a .previous) (now (a .line))) ≡ joined (c .measure .result) (verdict (checkAll (textFields (c .before .before .before .before .before .before .tag-by .result) fields))))
 unfolding readLine
 told c =
     let placed = sym (c .before .before .before .before .before .is-placed .ensures) ∙ not-false _ (c .before .before .before .before .if1 .left) in
-    let many = eqb-true _ _ (sym (c .before .before .has-fields .ensures) ∙ not-false _ (c .before .if2 .left)) ∙ c .before .before .before .field-count .ensures in
-    rw (← c .before .before .before .before .before .before .tag-of .ensures, c .measure .ensures) (line-joined _ _ _ _ placed many)
+    let many = eqb-true _ _ (sym (c .before .before .has-fields-by .ensures) ∙ not-false _ (c .before .if2 .left)) ∙ c .before .before .before .field-count .ensures in
+    rw (← c .before .before .before .before .before .before .tag-by .ensures, c .measure .ensures) (line-joined _ _ _ _ placed many)
 
 returns-3 : tie.Need-returns-3
 returns-3 c = sym (told (c .before .before .before) ∙ ap₂ joined (c .before .refusal .given .1) refl)
@@ -54,6 +58,7 @@ check-line-spec =
     tie.close
     (tie.spec
     (λ c κs. search needs)
+    tag-by-requires
     (λ c κs. search needs)
     returns
     (λ c κs. search needs)

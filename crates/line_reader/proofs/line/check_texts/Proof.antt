@@ -19,26 +19,26 @@ of-field e is = e ∙ ap (λ (t : List ℕ). verdict (checkWhole t)) is
 
 returns : tie.Need-returns
 unfolding textFields checkAll
-returns c = rw (c .before .before .enum-told .given .1) (of-field (c .check-whole .ensures) (c .before .field .ensures) ∙ last-text _)
+returns c = rw (c .before .before .enum-told .given .1) (of-field (c .check-whole .ensures) (c .before .field-by .ensures) ∙ last-text _)
 
 returns-2 : tie.Need-returns-2
 unfolding textFields checkAll
-returns-2 c = rw (c .before .before .enum-told2 .given .1) (of-field (c .check-whole2 .ensures) (c .before .field2 .ensures) ∙ last-text _)
+returns-2 c = rw (c .before .before .enum-told2 .given .1) (of-field (c .check-whole2 .ensures) (c .before .field-by2 .ensures) ∙ last-text _)
 
 returns-3 : tie.Need-returns-3
 unfolding textFields checkAll
 returns-3 c =
     let first = c .before .before .before in
-    let told = of-field (first .check-whole3 .ensures) (first .before .field3 .ensures) in
+    let told = of-field (first .check-whole3 .ensures) (first .before .field-by3 .ensures) in
     rw (first .before .before .enum-told3 .given .1) (sym (ap verdict (after-fault _ _ (not-passed _ _ (sym told ∙ c .before .refusal .given .1)))))
 
 returns-4 : tie.Need-returns-4
 unfolding textFields checkAll
 returns-4 c =
     let first = c .before .before .before .before in
-    let told = of-field (first .check-whole3 .ensures) (first .before .field3 .ensures) in
+    let told = of-field (first .check-whole3 .ensures) (first .before .field-by3 .ensures) in
     rw (first .before .before .enum-told3 .given .1)
-    (of-field (c .check-whole4 .ensures) (c .before .field4 .ensures) ∙
+    (of-field (c .check-whole4 .ensures) (c .before .field-by4 .ensures) ∙
     last-text _ ∙
     sym (ap verdict (after-good _ _ (passed _ (sym told ∙ c .before .before .enum-told4 .given .1)))))
 

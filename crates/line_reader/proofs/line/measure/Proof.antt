@@ -7,13 +7,13 @@ use Rattle.line_reader.proofs.line.measure.Tie as tie
 
 returns : tie.Need-returns
 unfolding lineSizes
-returns c = rw (c .sized .ensures, c .before .is-between .ensures, c .before .before .field .ensures, c .before .before .before .enum-told .given .1)
+returns c = rw (c .sized .ensures, c .before .is-between .ensures, c .before .before .field-by .ensures, c .before .before .before .enum-told .given .1)
 
 returns-2 : tie.Need-returns-2
 unfolding lineSizes
 returns-2 c =
     let f = c .before .before in
-    rw (c .sized2 .ensures, c .before .bytes-size .ensures, f .field5 .ensures, f .before .is-between4 .ensures, f .before .before .field4 .ensures, f .before .before .before .is-between3 .ensures, f .before .before .before .before .field3 .ensures, f .before .before .before .before .before .is-between2 .ensures, f .before .before .before .before .before .before .field2 .ensures, f .before .before .before .before .before .before .before .enum-told2 .given .1)
+    rw (c .sized2 .ensures, c .before .bytes-size .ensures, f .field-by5 .ensures, f .before .is-between4 .ensures, f .before .before .field-by4 .ensures, f .before .before .before .is-between3 .ensures, f .before .before .before .before .field-by3 .ensures, f .before .before .before .before .before .is-between2 .ensures, f .before .before .before .before .before .before .field-by2 .ensures, f .before .before .before .before .before .before .before .enum-told2 .given .1)
 
 returns-3 : tie.Need-returns-3
 unfolding lineSizes
@@ -25,19 +25,19 @@ returns-4 c = rw (c .sized4 .ensures, c .before .enum-told4 .given .1)
 
 returns-5 : tie.Need-returns-5
 unfolding lineSizes
-returns-5 c = rw (c .sized5 .ensures, c .before .bytes-size2 .ensures, c .before .before .is-between5 .ensures, c .before .before .before .field7 .ensures, c .before .before .before .before .field6 .ensures, c .before .before .before .before .before .enum-told5 .given .1)
+returns-5 c = rw (c .sized5 .ensures, c .before .bytes-size2 .ensures, c .before .before .is-between5 .ensures, c .before .before .before .field-by7 .ensures, c .before .before .before .before .field-by6 .ensures, c .before .before .before .before .before .enum-told5 .given .1)
 
 returns-6 : tie.Need-returns-6
 unfolding lineSizes
-returns-6 c = rw (c .sized6 .ensures, c .before .text-size .ensures, c .before .before .field8 .ensures, c .before .before .before .enum-told6 .given .1)
+returns-6 c = rw (c .sized6 .ensures, c .before .text-size .ensures, c .before .before .field-by8 .ensures, c .before .before .before .enum-told6 .given .1)
 
 returns-7 : tie.Need-returns-7
 unfolding lineSizes
-returns-7 c = rw (c .sized7 .ensures, c .before .text-size2 .ensures, c .before .before .field10 .ensures, c .before .before .before .is-between6 .ensures, c .before .before .before .before .field9 .ensures, c .before .before .before .before .before .enum-told7 .given .1)
+returns-7 c = rw (c .sized7 .ensures, c .before .text-size2 .ensures, c .before .before .field-by10 .ensures, c .before .before .before .is-between6 .ensures, c .before .before .before .before .field-by9 .ensures, c .before .before .before .before .before .enum-told7 .given .1)
 
 returns-8 : tie.Need-returns-8
 unfolding lineSizes
-returns-8 c = rw (c .sized8 .ensures, c .before .text-size4 .ensures, c .before .before .field12 .ensures, c .before .before .before .text-size3 .ensures, c .before .before .before .before .field11 .ensures, c .before .before .before .before .before .enum-told8 .given .1)
+returns-8 c = rw (c .sized8 .ensures, c .before .text-size4 .ensures, c .before .before .field-by12 .ensures, c .before .before .before .text-size3 .ensures, c .before .before .before .before .field-by11 .ensures, c .before .before .before .before .before .enum-told8 .given .1)
 
 returns-9 : tie.Need-returns-9
 unfolding lineSizes

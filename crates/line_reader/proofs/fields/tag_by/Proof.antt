@@ -1,4 +1,4 @@
--- `tag_of` meets its contract: the word is what stands before the first tab, and the words are tried in the order of the tags.
+-- `tag_by` meets its contract: the word is what stands before the first tab, and the words are tried in the order of the tags.
 -- Assumes nothing.
 use Prim.Native.Nat.{ℕ}
 use mathlib.Core.List.{List}
@@ -14,23 +14,24 @@ use Rattle.format.specs.Display.{ascii}
 use Rattle.sheet.specs.Fields.{tab}
 use Rattle.sheet.specs.Lines.{split, tagAmong, tags, tagOfWord}
 use Rattle.sheet.proofs.PartsFound.{first-part}
+use Rattle.line_reader.proofs.EndsLaws.{part-most}
 use Rattle.line_reader.proofs.FieldLaws.{word-is, word-not}
-use Rattle.line_reader.proofs.fields.tag_of.Statement.{statement}
-use Rattle.line_reader.proofs.fields.tag_of.Tie as tie
+use Rattle.line_reader.proofs.fields.tag_by.Statement.{statement}
+use Rattle.line_reader.proofs.fields.tag_by.Tie as tie
 
 slice-aggregate-word : tie.Need-slice-aggregate-word
-slice-aggregate-word c = sym (length-take-le _ _ (omega arith))
+slice-aggregate-word c = sym (length-take-le _ _ (let a = c .before .before .args in omega (arith, c .before .before .pre, part-most (now (a .line)) 0 (omega arith))))
 
 -- the first so many tags do not have the word
-abbrev Past : ℕ → tie.After-find-from → Type 0
+abbrev Past : ℕ → tie.After-shared-slice-known → Type 0
 Past n c =
-    let line : List ℕ = now (c .before .before .args .line) in
-    tagOfWord (split tab line .first) ≡ tagAmong (drop n tags) (take (c .find-from .result) line)
+    let line : List ℕ = now (c .before .args .line) in
+    tagOfWord (split tab line .first) ≡ tagAmong (drop n tags) (take (c .before .args .end) line)
 
-past-0 : (c : tie.After-find-from) → Past 0 c
+past-0 : (c : tie.After-shared-slice-known) → Past 0 c
 past-0 c =
-    let line = now (c .before .before .args .line) in
-    ap tagOfWord (first-part tab line ∙ sym (ap (λ (n : ℕ). take n line) (c .find-from .ensures .1 ∙ zero-add _)))
+    let line = now (c .before .args .line) in
+    ap tagOfWord (first-part tab line ∙ sym (ap (λ (n : ℕ). take n line) (c .before .pre ∙ zero-add _)))
 
 returns : tie.Need-returns
 unfolding ascii
@@ -100,11 +101,10 @@ returns-9 : tie.Need-returns-9
 unfolding tagAmong
 returns-9 c = sym (past-8 c)
 
-pub tag-of-spec : {M : Type 1} → statement M
-tag-of-spec =
+pub tag-by-spec : {M : Type 1} → statement M
+tag-by-spec =
     tie.close
     (tie.spec
-    (λ c κs. search needs)
     slice-aggregate-word
     (λ c. search needs)
     (λ c κs. search needs)
