@@ -10,6 +10,7 @@ use native.Mathlib.Omega.{arith}
 use lib.Dec.{eqb}
 use lib.ListN.{length, getD, drop, drop-of-length-le}
 use lib.Seq.{drop-cons}
+use borrow.Author.Tests.{eq-eqb, ne-eqb}
 use Rattle.find.specs.Find.{until, isAny}
 
 -- a byte that is named three times is one byte
@@ -19,6 +20,13 @@ any-one a b = go (eqb b a)
     go : (is : Bool) → (is || is || is) ≡ is
     go true = refl
     go false = refl
+
+-- so that byte passes, and another does not
+pub the-one : (a b : ℕ) → b ≡ a → isAny a a a b ≡ true
+the-one a b e = any-one a b ∙ eq-eqb b a e
+
+pub another : (a b : ℕ) → (b ≡ a → ⊥) → isAny a a a b ≡ false
+another a b n = any-one a b ∙ ne-eqb b a n
 
 module _ (passes : ℕ → Bool) where
   -- what is found by what the first byte does

@@ -3,6 +3,8 @@
 // Bytes that are none of them are passed over in blocks, and what is left of them one by one. The loop over a
 // block looks for one byte and does not branch on what it meets, so that it is compiled to a test of all of the block at
 // once, which costs no more than that of one byte. A loop that looked for three would not be.
+//
+// The next place of one byte is searched for by itself, with one compare for each byte: most such searches are short.
 ghost use mathlib.Core.Path.{_≡_};
 ghost use mathlib.Core.Bool.{false};
 ghost use Prim.Native.Nat.{ℕ, _+_, max, _≤_, _<_};
@@ -27,7 +29,30 @@ pub fn find_from(bytes: &[u8], byte: u8, at: usize) -> usize
     if bytes.len() <= at {
         return at;
     }
-    at + find_any(&bytes[at..], byte, byte, byte)
+    let mut i = blocks_without(bytes, byte, at);
+    while i < bytes.len() {
+        if bytes[i] == byte {
+            return i;
+        }
+        i += 1;
+    }
+    i
+}
+
+// The end of the whole blocks without a byte that stand one after another from at on.
+fn blocks_without(bytes: &[u8], byte: u8, at: usize) -> usize
+    requires { ⌜ at ≤ length (now bytes) ⌝ }
+    ensures { λ r. ⌜ r ≤ length (now (bytes .entry)) ⌝ }
+    ensures { λ r. ⌜ r + until (isAny byte byte byte) (drop r (now (bytes .entry))) ≡ at + until (isAny byte byte byte) (drop at (now (bytes .entry))) ⌝ }
+{
+    let mut i = at;
+    while bytes.len() - i >= BLOCK {
+        if has_byte(bytes, byte, i) {
+            return i;
+        }
+        i += BLOCK;
+    }
+    i
 }
 
 // The place of the first one from at on, or the end where there is none.

@@ -2,13 +2,13 @@
 ghost use mathlib.Core.Path.{_≡_};
 ghost use lib.ListN.{drop};
 ghost use Rattle.find.specs.Nul.{untilNul};
-use crate::find::find_any;
+use crate::find::find_from;
 
 // How many bytes stand before the first NUL; all of them where there is none.
 pub fn find_nul(bytes: &[u8]) -> usize
     ensures { λ r. ⌜ r ≡ untilNul (now (bytes .entry)) ⌝ }
 {
-    find_any(bytes, 0, 0, 0)
+    find_from(bytes, 0, 0)
 }
 
 // The same from a place on. Many texts are empty, and the first byte tells so without a search.
@@ -21,5 +21,5 @@ pub fn find_nul_from(bytes: &[u8], at: usize) -> usize
     if bytes[at] == 0 {
         return 0;
     }
-    find_nul(&bytes[at..])
+    find_from(bytes, 0, at) - at
 }

@@ -1,53 +1,71 @@
--- `find::find::find_from` meets its contract: `find_any` is shown all from the place on.
+-- `find::find::find_from` meets its contract. The loop's invariant: no byte that was passed is the one looked for.
 -- Assumes nothing.
-use Prim.Native.Nat.{ℕ, _+_, _≤_}
-use mathlib.Core.Bool.{Bool}
-use mathlib.Core.List.{List}
-use mathlib.Core.Path.{_≡_, ap, _∙_}
+use Prim.Native.Nat.{_+_, _≤_, _-_}
+use mathlib.Core.Path.{_≡_}
 use native.Mathlib.Omega.{arith}
-use borrow.Author.Needs.{needs}
-use lib.ListN.{length, drop, length-drop}
+use lib.ListN.{length, getD, drop}
 use Rattle.find.specs.Find.{until, isAny}
-use Rattle.find.proofs.Slices.{from-place}
-use Rattle.find.proofs.FindLaws.{until-past, until-least}
+use Rattle.find.proofs.FindLaws.{the-one, another, until-step, until-here, until-past}
 use Rattle.find.proofs.find.find_from.Statement.{statement}
 use Rattle.find.proofs.find.find_from.Tie as tie
 
-returns : tie.Need-returns
+abbrev Inv-loop : tie.InvT-loop
+Inv-loop bytes byte at i₀ i = (i ≤ length bytes) × (i + until (isAny byte byte byte) (drop i bytes) ≡ at + until (isAny byte byte byte) (drop at bytes))
+
+abbrev μ-loop : tie.MeasureT-loop
+μ-loop bytes byte at i₀ i = length bytes - i
+
+returns : tie.Need-returns Inv-loop μ-loop
 returns c =
     let a = c .before .before .args in
     (omega arith, omega (arith, until-past (isAny (a .byte) (a .byte) (a .byte)) (a .bytes .now) (a .at) (omega arith)))
 
-module _ (c : tie.After-find-any) where
-  abbrev at : ℕ
-  at = c .before .before .before .before .args .at
+blocks-without-requires : tie.Need-blocks-without-requires Inv-loop μ-loop
+blocks-without-requires c κs = omega arith
 
-  abbrev bytes : List ℕ
-  bytes = c .before .before .before .before .args .bytes .now
+loop-holds : tie.Need-loop-holds Inv-loop μ-loop
+loop-holds c = c .blocks-without .ensures
 
-  abbrev is : ℕ → Bool
-  is = let byte = c .before .before .before .before .args .byte in isAny byte byte byte
+shared-slice-read-if2 : tie.Need-shared-slice-read-if2 Inv-loop μ-loop
+shared-slice-read-if2 c = omega arith
 
-  found : c .find-any .result ≡ until is (drop at bytes)
-  found = c .find-any .ensures ∙ ap (until is) (from-place bytes at)
+returns-2 : tie.Need-returns-2 Inv-loop μ-loop
+returns-2 c =
+    let at = c .before .before .before in
+    let a = at .before .before .before .before .args in
+    let here = the-one (a .byte) (getD (a .bytes .now) (at .loop .i) 0) (omega arith) in
+    (omega arith, omega (arith, until-here (isAny (a .byte) (a .byte) (a .byte)) (a .bytes .now) (at .loop .i) (omega arith) here))
 
-  inside : at + c .find-any .result ≤ length bytes
-  inside = omega (arith, found, until-least is (drop at bytes), length-drop at bytes)
+add-i : tie.Need-add-i Inv-loop μ-loop
+add-i c = omega arith
 
-add-result : tie.Need-add-result
-add-result c = omega (arith, inside c)
+loop-less : tie.Need-loop-less Inv-loop μ-loop
+loop-less c = omega arith
 
-returns-2 : tie.Need-returns-2
-returns-2 c = (omega (arith, inside c), ap (λ (k : ℕ). at c + k) (found c))
+loop-again : tie.Need-loop-again Inv-loop μ-loop
+loop-again c =
+    let at = c .before .before .before in
+    let a = at .before .before .before .before .args in
+    let none = another (a .byte) (getD (a .bytes .now) (at .loop .i) 0) (λ e. omega arith) in
+    (omega arith, omega (arith, until-step (isAny (a .byte) (a .byte) (a .byte)) (a .bytes .now) (at .loop .i) (omega arith) none))
+
+returns-3 : tie.Need-returns-3 Inv-loop μ-loop
+returns-3 c =
+    let a = c .before .before .before .before .before .args in
+    (omega arith, omega (arith, until-past (isAny (a .byte) (a .byte) (a .byte)) (a .bytes .now) (c .before .loop .i) (omega arith)))
 
 pub find-from-spec : {M : Type 1} → statement M
 find-from-spec =
     tie.close
     (tie.spec
+    Inv-loop
+    μ-loop
     returns
-    (λ c. search needs)
-    (λ c. search needs)
-    (λ c. search needs)
-    (λ c κs. search needs)
-    add-result
-    returns-2)
+    blocks-without-requires
+    loop-holds
+    shared-slice-read-if2
+    returns-2
+    add-i
+    loop-less
+    loop-again
+    returns-3)
