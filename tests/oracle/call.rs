@@ -1,19 +1,5 @@
 //! Calls of the C entry points, as the Rust package declares them.
-
-/// All that the package declares, and the way in, which it does not declare.
-mod sys {
-    pub use srci::sys::*;
-
-    extern "C" {
-        pub fn srci_from_sheet(
-            sheet: *const u8,
-            sheet_length: usize,
-            output: *mut u8,
-            output_length: usize,
-            second: *mut u32,
-        ) -> u32;
-    }
-}
+use srci::sys;
 
 pub struct Answer {
     pub number: u32,
