@@ -59,6 +59,10 @@ pub fn close_text(output: &mut [u8], end: u32) -> usize
     ensures { λ r. ⌜ r ≡ end + 1 ⌝ }
     ensures { λ _. ⌜ now (output .exit) ≡ sets (now (output .entry)) end (0 ∷ []) ⌝ }
 {
-    wire::write_zeros(output, end as usize, 1);
-    end as usize + 1
+    let at = end as usize;
+    if output.len() <= at {
+        return at + 1;
+    }
+    output[at] = 0;
+    at + 1
 }
