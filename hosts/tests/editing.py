@@ -207,11 +207,11 @@ def test_a_refused_sheet_without_a_terminal(folder):
     said = f"srci: sky.sheet{REFUSED}srci: the sheet is kept as \"sky.sheet\", for 'srci from-sheet'\n"
     assert (out, err.decode(), status) == (b"", said, 1)
     assert file.read_bytes() == SAMPLE and kept.read_bytes() == BROKEN and stat.S_IMODE(kept.stat().st_mode) == 0o600
-    # a text's fault has no line, and what won't fit neither
+    # a text's fault has its line, and what won't fit has none
     for number, line in [(11, r"name\t1\t\377\n"), (12, r"name\t1\t\000\n")]:
         kept.unlink()
         out, err, status = run("edit", file, env=editor(folder, f"printf 'names\\n{line}' > \"$1\""))
-        assert (out, status) == (b"", 1) and f'srci: "{kept}": refused {number}, '.encode() in err
+        assert (out, status) == (b"", 1) and f"srci: {kept}:2: refused {number}, ".encode() in err
         assert err.endswith(f"srci: the sheet is kept as \"{kept}\", for 'srci from-sheet'\n".encode())
     kept.unlink()
     fails(1, "refused 18, won't fit", "edit", file, env=editor(folder, 'yes names | head -n 65536 > "$1"'))
