@@ -25,7 +25,7 @@ use Rattle.sheet.proofs.LinesRead.{tested}
 use Rattle.sheet.proofs.PartsFound.{ends, part-end, last-part, next-part}
 use Rattle.sheet.proofs.SheetsRead.{read-records}
 use Rattle.lines.specs.Measure.{lineEnd}
-use Rattle.from_sheet.specs.Records.{recordOf, closed, recordsFrom, sectionsFrom, LineChecked, LinesChecked, CheckedFrom, AtSection}
+use Rattle.from_sheet.specs.Records.{recordOf, closedParts, recordsFrom, sectionsFrom, LineChecked, LinesChecked, CheckedFrom, AtSection}
 
 -- ---- from a place on
 
@@ -42,7 +42,7 @@ module _ (s : List ℕ) (at end : ℕ) where
     pub records : recordsFrom s at ≡ recordOf here ∷ recordsFrom s (end + 1)
 
   pub next : end ≡ lineEnd s at → at < length s → CheckedFrom s at → Next
-  unfolding LinesChecked closed
+  unfolding LinesChecked closedParts
   next is some all = go (ltb end (length s)) refl
     where
       least : until (ends newline) (drop at s) ≤ length (drop at s)
@@ -64,7 +64,7 @@ module _ (s : List ℕ) (at end : ℕ) where
             most = h;
             line = subst LineChecked (sym first) line;
             checked = rest;
-            records = ap (λ (l : List (List ℕ)). map recordOf (closed (split newline (drop at s) .first) l)) parts ∙ ap (λ (l : List ℕ). recordOf l ∷ recordsFrom s (end + 1)) (sym first);
+            records = ap (λ (l : List (List ℕ)). map recordOf (closedParts (split newline (drop at s) .first) l)) parts ∙ ap (λ (l : List ℕ). recordOf l ∷ recordsFrom s (end + 1)) (sym first);
           }
       go false e =
           let h = ltb-false end (length s) e in
@@ -73,7 +73,7 @@ module _ (s : List ℕ) (at end : ℕ) where
           absurd (omega (arith, ap length last, length-take-le (end - at) (drop at s) (omega (arith, long))))
 
 pub records-end : (s : List ℕ) (at : ℕ) → length s ≤ at → recordsFrom s at ≡ []
-unfolding split closed
+unfolding split closedParts
 records-end s at h = rw (drop-of-length-le s h)
 
 -- ---- a whole sheet
@@ -81,8 +81,8 @@ records-end s at h = rw (drop-of-length-le s h)
 read-lines :
     (rest : List (List ℕ)) (n : ℕ) (previous : Tag) (first : List ℕ) (rs : List Record) →
     readLines n previous first rest ≡ good rs →
-    (map recordOf (closed first rest) ≡ rs) × LinesChecked first rest
-unfolding readLines closed LinesChecked
+    (map recordOf (closedParts first rest) ≡ rs) × LinesChecked first rest
+unfolding readLines closedParts LinesChecked
 read-lines [] n previous last rs e =
     let (empty, same) = check-good _ _ _ _ e in
     (cc, none last (eqb-true (length last) 0 empty))

@@ -1,20 +1,18 @@
 -- What a line says, by its fields, tag by tag; and what is known of each field where the line has just its fields.
 -- Assumes nothing.
 use Prim.Native.Nat.{ℕ, zero, suc, _+_, _≤_, _<_}
-use mathlib.Core.Bool.{Bool, true, _&&_, and-eq-true-iff}
+use mathlib.Core.Bool.{Bool, true, and-eq-true-iff}
 use mathlib.Core.List.{List, [], _∷_}
 use mathlib.Core.Path.{_≡_, refl}
 use native.Mathlib.Omega.{arith}
-use borrow.Author.Tests.{leb-true, eqb-true}
-use lib.Dec.{leb, eqb}
 use lib.ListN.{length, getD, take, drop}
-use Rattle.table.specs.Tags.{sameTag}
 use Rattle.table.specs.declared.tag.Tag.{Tag}
 use Rattle.table.specs.declared.tag.Tag.the-variants as tag
 use Rattle.format.specs.Records.{numberCount, textCount, number, text, nameOf, pairOf}
 use Rattle.frames.specs.Entry.{name, pair}
 use Rattle.sheet.specs.Fields.{all, spelt, isNumber, numberOf, isHexPairs, bytesOfPairs, unescape}
 use Rattle.sheet.specs.Lines.{isShown, saidBy, isMade, isRuled}
+use Rattle.sheet.proofs.LinesRead.{kind-ok, Fields, each-field}
 
 -- ---- what it says; a field that is not there is empty, and says 0 or nothing
 
@@ -79,29 +77,16 @@ module _ {A : Type 0} (passes : A → Bool) (d : A) where
   left-passes (suc n) (x ∷ l) h e = left-passes n l (omega arith) e
 
 module _ (t : Tag) (fs : List (List ℕ)) (made : isMade t fs ≡ true) where
-  record Fields : Type 0 where
-    many : length fs ≡ numberCount t + textCount t
-    numbers : all isNumber (take (numberCount t) fs) ≡ true
-    texts : all (isShown t) (drop (numberCount t) fs) ≡ true
-
-  each-field : Fields
-  unfolding isMade
-  each-field =
-      let (two, third) = and-eq-true-iff (eqb (length fs) (numberCount t + textCount t) && all isNumber (take (numberCount t) fs)) (all (isShown t) (drop (numberCount t) fs)) .0 made in
-      let (first, second) = and-eq-true-iff (eqb (length fs) (numberCount t + textCount t)) (all isNumber (take (numberCount t) fs)) .0 two in
-      record { many = eqb-true (length fs) (numberCount t + textCount t) first; numbers = second; texts = third }
+  fields : Fields t fs made
+  fields = each-field t fs made
 
   pub number-made : (k : ℕ) → k < numberCount t → isNumber (getD fs k []) ≡ true
-  number-made k less = taken-passes isNumber [] (numberCount t) fs k (omega (arith, each-field .many)) less (each-field .numbers)
+  number-made k less = taken-passes isNumber [] (numberCount t) fs k (omega (arith, fields .many)) less (fields .numbers)
 
   -- the first field after the numbers
   pub shown-made : 1 ≤ textCount t → isShown t (getD fs (numberCount t) []) ≡ true
-  shown-made some = left-passes (isShown t) [] (numberCount t) fs (omega (arith, each-field .many)) (each-field .texts)
+  shown-made some = left-passes (isShown t) [] (numberCount t) fs (omega (arith, fields .many)) (fields .texts)
 
 -- the kind of an unknown section has 16 bits
 pub kind-fits : (fs : List (List ℕ)) → isRuled (saidBy tag.Unknown fs) ≡ true → number 0 (saidBy tag.Unknown fs) ≤ 65535
-unfolding sameTag
-kind-fits fs e =
-    let r = saidBy tag.Unknown fs in
-    let (both, whole) = and-eq-true-iff (leb 3 (number 0 r) && leb (number 0 r) 65535) _ .0 e in
-    leb-true (number 0 r) 65535 (and-eq-true-iff (leb 3 (number 0 r)) (leb (number 0 r) 65535) .0 both .1)
+kind-fits fs e = kind-ok (saidBy tag.Unknown fs) tag.Unknown refl e .1

@@ -23,13 +23,13 @@ abbrev pub recordOf : List ℕ → Record
 recordOf line = saidBy (tagIn line) (fieldsOf line)
 
 -- of the parts that newlines leave, those that are closed; the last is not
-unfoldable pub closed : List ℕ → List (List ℕ) → List (List ℕ)
-closed last [] = []
-closed first (next ∷ rest) = first ∷ closed next rest
+unfoldable pub closedParts : List ℕ → List (List ℕ) → List (List ℕ)
+closedParts last [] = []
+closedParts first (next ∷ rest) = first ∷ closedParts next rest
 
 module _ (s : List ℕ) (at : ℕ) where
   abbrev pub recordsFrom : List Record
-  recordsFrom = map recordOf (closed (split newline (drop at s) .first) (split newline (drop at s) .rest))
+  recordsFrom = map recordOf (closedParts (split newline (drop at s) .first) (split newline (drop at s) .rest))
 
   abbrev pub sectionsFrom : List Section
   sectionsFrom = sections recordsFrom

@@ -1,12 +1,12 @@
 // The parts of a line: its word, which tells its tag, and its fields, each after a tab.
 ghost use mathlib.Core.List.{[]};
 ghost use mathlib.Core.Path.{_≡_};
-ghost use lib.Dec.{eqb};
 ghost use Prim.Native.Nat.{_+_, _-_, _≤_};
+ghost use lib.Dec.{eqb};
 ghost use lib.ListN.{length, getD, take, drop};
-ghost use Rattle.line_reader.specs.Ends.{partEnd, nextEnd, endsOf};
 ghost use Rattle.sheet.specs.Fields.{tab};
 ghost use Rattle.sheet.specs.Lines.{split, same, tagOfWord};
+ghost use Rattle.line_reader.specs.Ends.{partEnd, nextEnd, endsOf};
 use find::find_from;
 use table::Tag;
 

@@ -128,7 +128,7 @@ module _ (r : Record) (whole : Whole r) where
 
 -- ---- from a line to its record
 
-kind-ok : (r : Record) (t : Tag) → r .tag ≡ t → isRuled r ≡ true → KindOk t r
+pub kind-ok : (r : Record) (t : Tag) → r .tag ≡ t → isRuled r ≡ true → KindOk t r
 unfolding sameTag
 kind-ok r tag.PlainContents q e = tt
 kind-ok r tag.PackedContents q e = tt
@@ -163,6 +163,20 @@ fields-free (f ∷ fs) (tabs, h) (k, ks) =
     let (this, rest) = all-parts _ f (parted fs) h in
     ((k, this), fields-free fs rest ks)
 
+-- a line of a tag that has just its fields: how many they are, and that each is one
+module _ (t : Tag) (fs : List (List ℕ)) (made : isMade t fs ≡ true) where
+  pub record Fields : Type 0 where
+    pub many : length fs ≡ numberCount t + textCount t
+    pub numbers : all isNumber (take (numberCount t) fs) ≡ true
+    pub texts : all (isShown t) (drop (numberCount t) fs) ≡ true
+
+  pub each-field : Fields
+  unfolding isMade
+  each-field =
+      let (two, third) = and-eq-true-iff (eqb (length fs) (numberCount t + textCount t) && all isNumber (take (numberCount t) fs)) (all (isShown t) (drop (numberCount t) fs)) .0 made in
+      let (first, second) = and-eq-true-iff (eqb (length fs) (numberCount t + textCount t)) (all isNumber (take (numberCount t) fs)) .0 two in
+      record { many = eqb-true (length fs) (numberCount t + textCount t) first; numbers = second; texts = third }
+
 module _ (refusal : Refusal) (previous : Tag) (bytes : List ℕ) (r : Record) (e : readLine refusal previous bytes ≡ good r) where
   abbrev p : Parts
   p = split tab bytes
@@ -194,23 +208,10 @@ module _ (refusal : Refusal) (previous : Tag) (bytes : List ℕ) (r : Record) (e
   pub read-placed : isPlaced previous (r .tag) ≡ true
   read-placed = rw (tested .is) (tested .placed)
 
-  -- each field is one
-  record Fields : Type 0 where
-    many : length fs ≡ numberCount t + textCount t
-    numbers : all isNumber (take (numberCount t) fs) ≡ true
-    texts : all (isShown t) (drop (numberCount t) fs) ≡ true
-
-  each-field : Fields
-  unfolding isMade
-  each-field =
-      let (two, third) = and-eq-true-iff (eqb (length fs) (numberCount t + textCount t) && all isNumber (take (numberCount t) fs)) (all (isShown t) (drop (numberCount t) fs)) .0 (tested .made) in
-      let (first, second) = and-eq-true-iff (eqb (length fs) (numberCount t + textCount t)) (all isNumber (take (numberCount t) fs)) .0 two in
-      record { many = eqb-true (length fs) (numberCount t + textCount t) first; numbers = second; texts = third }
-
   pub read-whole : Whole r
   read-whole =
       let is = tested .is in
-      let f = each-field in
+      let f = each-field t fs (tested .made) in
       let own : r .tag ≡ t = ap (λ (r : Record). r .tag) is in
       let shape : Shaped (saidBy t fs) =
       record {
@@ -230,7 +231,7 @@ module _ (refusal : Refusal) (previous : Tag) (bytes : List ℕ) (r : Record) (e
       let (head, rest) = all-parts _ (p .first) (parted fs) whole in
       let within = fields-free fs rest (split-free tab bytes .1) in
       let (first, second) = all-parts Within (take (numberCount t) fs) (drop (numberCount t) fs) (rw take-append-drop within) in
-      let f = each-field in
+      let f = each-field t fs (tested .made) in
       let named : word t ≡ p .first = word-again (p .first) (λ none. no-record previous (rw none at (tested .placed))) in
       let same : fields (saidBy t fs) ≡ fs =
       ap₂ (λ (a b : List (List ℕ)). a ++ b)

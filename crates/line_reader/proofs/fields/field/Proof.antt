@@ -6,8 +6,8 @@ use mathlib.Core.Path.{_≡_, refl, sym, ap, _∙_}
 use native.Mathlib.Omega.{arith}
 use borrow.Author.Needs.{needs}
 use denote.Ref.{now}
-use lib.ListN.{length, getD, drop, drop-of-length-le}
-use Rattle.find.proofs.Slices.{from-place}
+use lib.ListN.{length, getD, drop, length-drop, drop-of-length-le}
+use lib.Seq.{take-all}
 use Rattle.sheet.specs.Fields.{tab}
 use Rattle.sheet.specs.Lines.{split}
 use Rattle.sheet.proofs.PartsFound.{part-end}
@@ -44,7 +44,7 @@ returns c =
     let f = c .before .before in
     let line = now (f .before .before .before .args .line) in
     let end : length line ≤ f .find-from .result = omega arith in
-    from-place line (f .find-from .result) ∙
+    take-all (length line - f .find-from .result) (drop (f .find-from .result) line) (omega (arith, length-drop (f .find-from .result) line)) ∙
     drop-of-length-le line end ∙
     sym (field-none line (f .before .loop .at) _ (f .find-from .ensures .1) (c .before .if1 .taken) (f .before .loop .left)) ∙
     f .before .loop .inv .1
