@@ -7,6 +7,8 @@
 // Proved: the answer and the output afterwards are those that crate format defines, the public copy and then its
 // listing, for every byte string and every output; and that a card tells the public facts alone (specs/Card.antt).
 // Nothing is assumed.
+#![tactic(auto)]
+
 mod source_info;
 
 ghost use Rattle.std.specs.Prelude.{◌≡◌, length};

@@ -3,6 +3,8 @@
 //
 // Proved: every function is total, has no `requires`, and stores and answers just what crate format defines
 // (specs/Display.antt, specs/Print.antt). What would be stored past the end is dropped. Nothing is assumed.
+#![tactic(auto)]
+
 mod line;
 mod number;
 

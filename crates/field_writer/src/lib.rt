@@ -3,6 +3,8 @@
 //
 // Proved: every function is total, and stores and answers just what crate sheet defines (specs/Fields.antt); those that
 // another crate can call have no `requires`. What would be stored past the end is dropped. Nothing is assumed.
+#![tactic(auto)]
+
 mod hex;
 mod text;
 

@@ -2,6 +2,8 @@
 //
 // Proved: the functions that other crates call are total, have no `requires`, and answer just what their
 // definitions in specs/ say, `until` of Find.antt and `until_nul` of Nul.antt.
+#![tactic(auto)]
+
 mod find;
 mod nul;
 

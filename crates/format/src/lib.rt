@@ -20,3 +20,5 @@
 //
 // Proved: each promise of specs/Promises.antt, specs/RoundTrips.antt, specs/Secrecy.antt, specs/Card.antt and specs/RefusedCalls.antt, and that the
 // starred samples hold. Nothing is assumed.
+
+#![tactic(auto)]

@@ -4,6 +4,8 @@
 // Proved: every function is total, and stores just what its definition in specs/ says; those that another crate can
 // call have no `requires`. Around what a section stores that is the section (proofs/Closed.antt), and around a text the
 // entry (proofs/EntryClosed.antt). A number that does not fit its field is stored by its low bytes.
+#![tactic(auto)]
+
 mod entry;
 
 ghost use Rattle.std.specs.Prelude.{[], ◌≡◌, ◌+◌, ◌-◌};

@@ -5,6 +5,8 @@
 //
 // Proved: the answer and the output afterwards are those that crate sheet defines (specs/FromSheet.antt), for every sheet
 // and output. Nothing is assumed.
+#![tactic(auto)]
+
 mod entry;
 mod hex;
 mod number;

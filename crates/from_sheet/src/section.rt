@@ -19,7 +19,7 @@ use line_reader::{field, tag_of};
 use table::Tag;
 
 // A place of the sheet, where a line begins, and the place of the output where what it says goes.
-#[derive(Drop)]
+#[derive(Clone, Copy)]
 pub struct Position {
     pub at: usize,
     pub to: usize,

@@ -2,6 +2,8 @@
 // bytes of a span, and what a text must be.
 //
 // Proved: every function is total, has no `requires`, and gives just what its definition in specs/ says.
+#![tactic(auto)]
+
 mod compression;
 mod refusal;
 mod section_type;

@@ -3,7 +3,7 @@ ghost use Rattle.std.specs.Prelude.{◌≡◌};
 ghost use Rattle.layout.specs.Refusals.{refusal_number, refusal_second, answer_number, answer_second};
 
 // In the order of their numbers, from 1.
-#[derive(Drop)]
+#[derive(Clone, Copy)]
 pub enum Refusal {
     // The payload has more than 26,214,400 bytes.
     Oversize,
@@ -48,7 +48,7 @@ pub enum Refusal {
 }
 
 // What a call answers.
-#[derive(Drop)]
+#[derive(Clone, Copy)]
 pub enum Answer {
     // How many rows or bytes were stored.
     Accepted(u32),

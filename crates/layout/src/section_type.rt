@@ -2,7 +2,7 @@
 ghost use Rattle.std.specs.Prelude.{◌≡◌};
 ghost use Rattle.layout.specs.Kinds.{section_type, kind_number, known};
 
-#[derive(Drop)]
+#[derive(Clone, Copy)]
 pub enum SourceInfoSectionType {
     // Source texts, plain or packed.
     SourceContents,

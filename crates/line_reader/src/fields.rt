@@ -11,7 +11,7 @@ const TAB: u8 = 9;
 
 // Where the word of a line ends, and its first two fields: at a tab, or at the line's end. A field that is not there ends
 // where the part before it does.
-#[derive(Drop)]
+#[derive(Clone, Copy)]
 pub struct Ends {
     pub word: usize,
     pub first: usize,

@@ -2,6 +2,8 @@
 //
 // Proved: every function that another crate can call is total, has no `requires`, and answers just what crate sheet
 // defines (specs/Lines.antt). Nothing is assumed.
+#![tactic(auto)]
+
 mod bytes;
 mod fields;
 mod line;

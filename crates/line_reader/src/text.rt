@@ -6,7 +6,7 @@ ghost use Rattle.line_reader.specs.Sizes.{text_told};
 use find::find_from;
 
 // How many bytes a field says.
-#[derive(Drop)]
+#[derive(Clone, Copy)]
 pub enum FieldSize {
     Size(usize),
     Malformed,

@@ -3,6 +3,8 @@
 //
 // Proved: `line_end` finds where a line ends, and `measure` gives the length of a sheet's payload or its refusal (crate
 // sheet, specs/FromSheet.antt), for every byte string. Nothing is assumed.
+#![tactic(auto)]
+
 ghost use Rattle.std.specs.Prelude.{◌≡◌, ◌+◌, min};
 ghost use Rattle.sheet.specs.FromSheet.{from_sheet};
 ghost use Rattle.sizes.specs.Measure.{sized};

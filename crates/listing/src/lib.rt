@@ -6,6 +6,8 @@
 //
 // Proved: the answer and the output afterwards are those that crate format defines (specs/Listing.antt), for
 // every byte string and every output. Nothing is assumed.
+#![tactic(auto)]
+
 mod source_info;
 
 ghost use Rattle.std.specs.Prelude.{◌≡◌, length};

@@ -3,6 +3,8 @@
 //
 // Proved: it answers the number of rows or the first fault that the definition of reading gives
 // (crate format, specs/Parse.antt), for every byte string. Nothing is assumed.
+#![tactic(auto)]
+
 mod arguments;
 mod contents;
 mod entries;

@@ -2,6 +2,8 @@
 //
 // Proved: what is stored, and how many bytes, is what crate format defines for every input (specs/Print.antt,
 // specs/Card.antt). Nothing is assumed.
+#![tactic(auto)]
+
 ghost use Rattle.std.specs.Prelude.{◌++◌, ◌≡◌, length, drop};
 ghost use Rattle.std.proofs.lemmas.List.Edits.{sets};
 ghost use Rattle.format.specs.Card.{card_printed};

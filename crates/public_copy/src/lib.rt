@@ -6,6 +6,8 @@
 // Proved: the answer and the output afterwards are those that crate format defines (specs/PublicCopy.antt), for
 // every byte string and every output; and what this gives away is demand 3 (specs/Secrecy.antt). Nothing is
 // assumed.
+#![tactic(auto)]
+
 mod contents;
 mod names;
 mod source_info;

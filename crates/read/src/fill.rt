@@ -14,7 +14,7 @@ use table::Row;
 use wire::{Terminated, TextLength, WireSize};
 
 // What the entries of a section are.
-#[derive(Drop)]
+#[derive(Clone, Copy)]
 enum EntryKind {
     Content,
     Name,

@@ -5,6 +5,8 @@
 //
 // Proved: the answer and the table afterwards are those that crate format defines (specs/Read.antt), for
 // every byte string and every table. Nothing is assumed.
+#![tactic(auto)]
+
 mod fill;
 
 ghost use Rattle.std.specs.Prelude.{◌≡◌, length};

@@ -34,6 +34,8 @@
 //   as for those of listing.
 // Of making sheets: 119 calls worked out by an independent model of request (a) of document 02. Of making payloads of
 // sheets: 120 calls worked out by that model.
+#![tactic(auto)]
+
 ghost use Rattle.std.specs.Prelude.{◌≤◌, length};
 
 use layout::Answer;

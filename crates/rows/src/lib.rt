@@ -4,6 +4,8 @@
 // Proved: `check_row` gives what the rule of one row says, and `measure` the length of what writing gives or
 // its refusal (crate format, specs/Rules.antt and specs/Write.antt), for every payload, edit text and table.
 // Nothing is assumed.
+#![tactic(auto)]
+
 mod pass;
 mod rule;
 

@@ -3,6 +3,8 @@
 //
 // Proved: what is taken at a place, and where the reader stands afterwards, is what the definition of reading
 // gives (crate format, specs/Parse.antt), for every byte string and every place. Nothing is assumed.
+#![tactic(auto)]
+
 mod reader;
 mod section;
 

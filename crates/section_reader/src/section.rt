@@ -6,7 +6,7 @@ ghost use Rattle.section_reader.specs.Section.{section_found, taken};
 use layout::{Refusal, SourceInfoSectionType};
 
 // A section as its header tells of it: its kind, its place, and its size with header and padding.
-#[derive(Drop)]
+#[derive(Clone, Copy)]
 pub struct Section {
     pub kind: SourceInfoSectionType,
     pub at: usize,

@@ -12,3 +12,5 @@
 //   Promises  what follows: out and back, one sheet only, the first faulty line decides
 //
 // Proved: each promise of specs/Promises.antt, and that the samples hold. Nothing is assumed.
+
+#![tactic(auto)]

@@ -14,7 +14,7 @@ const COUNT_LIMIT: usize = 65_535;
 const NAMES_LIMIT: usize = SourceInfoSectionType::NAMES_START + COUNT_LIMIT;
 
 // What was measured so far.
-#[derive(Drop)]
+#[derive(Clone, Copy)]
 pub struct Sizes {
     // The tag of the record before.
     pub previous: Tag,

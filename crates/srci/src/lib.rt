@@ -2,6 +2,8 @@
 //
 // A slice passes as a pointer and a length in elements. No function has a `requires`: every byte string
 // and every table may be passed.
+#![tactic(auto)]
+
 ghost use Rattle.std.specs.Prelude.{◌≡◌, length};
 ghost use Rattle.layout.specs.Refusals.{answer_number, answer_second};
 ghost use Rattle.format.specs.Read.{read_answer, read_table};

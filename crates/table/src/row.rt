@@ -6,7 +6,7 @@ ghost use Rattle.table.specs.Rows.{rows_of, no_row, store_row, plain_row, packed
 
 use wire::TextLength;
 
-#[derive(Drop)]
+#[derive(Clone, Copy)]
 pub struct Row {
     // What the row is, by the number of its tag.
     pub tag: u32,

@@ -3,7 +3,7 @@ ghost use Rattle.std.specs.Prelude.{◌≡◌};
 ghost use Rattle.table.specs.Tags.{tag_of, tag_number, same_tag, entry_tag, begins_section};
 
 // In the order of their numbers, from 0.
-#[derive(Drop)]
+#[derive(Clone, Copy)]
 pub enum Tag {
     // Contents that stand in the section as they are.
     PlainContents,

@@ -15,7 +15,7 @@ ghost use Rattle.to_sheet.specs.Entry.{sheet_limit, entry_at, pair_line};
 use wire::TextLength;
 
 // What the entries of a section are.
-#[derive(Drop)]
+#[derive(Clone, Copy)]
 pub enum EntryKind {
     Content,
     Name,

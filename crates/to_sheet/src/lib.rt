@@ -5,6 +5,8 @@
 //
 // Proved: the answer and the output afterwards are those that crate sheet defines (specs/ToSheet.antt), for
 // every byte string and every output. Nothing is assumed.
+#![tactic(auto)]
+
 mod entry;
 mod section;
 mod source_info;

@@ -3,6 +3,8 @@
 // Proved: the answer is the one that specs/Rfc3629.antt gives from the grammar of the RFC, for every
 // byte string of any length, read on from any place. Nothing is assumed. Whole texts are checked by the crate
 // `validate`, which looks at blocks of bytes and comes here for the rest.
+#![tactic(auto)]
+
 mod character;
 mod classes;
 

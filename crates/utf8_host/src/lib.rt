@@ -1,5 +1,7 @@
 // The check of UTF-8 for host programs, which link target/staticlib/libutf8_host.a: by it tests/utf8 times the check
 // beside that of Rust's core, and compares the two.
+#![tactic(auto)]
+
 ghost use Rattle.std.specs.Prelude.{◌≡◌};
 ghost use Rattle.utf8.specs.Rfc3629.{utf8_of};
 ghost use Rattle.utf8_host.specs.Told.{number, place};

@@ -9,6 +9,8 @@
 // above: one character of four bytes, 1,048,576.
 // Two bytes, the first of them ASCII, are ill formed at 1 where the second is none, since no character
 // of one byte begins with it: 128 * 128 = 16,384.
+#![tactic(auto)]
+
 ghost use Rattle.std.specs.Prelude.{◌≤◌};
 
 use libc::STDOUT_FILENO;

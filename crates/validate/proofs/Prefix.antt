@@ -1,7 +1,7 @@
 -- The first part of a text, by the local rule: where every place of it is right and no character is open after it, reading on from there gives the
 -- answer for the whole text. By `RuleGrammar.antt` that part is UTF8-octets, and what is UTF8-octets is passed over whatever follows it.
 -- Assumes nothing.
-use Rattle.core.specs.Prelude.{◌≡◌, ℕ, zero, suc, ◌+◌, ◌<◌, ◌≤◌, Bool, true, false, ◌&&◌, List, [], ◌∷◌, ◌++◌, length, get_or, take, drop}
+use Rattle.std.specs.Prelude.{◌≡◌, ℕ, zero, suc, ◌+◌, ◌<◌, ◌≤◌, Bool, true, false, ◌&&◌, List, [], ◌∷◌, ◌++◌, length, get_or, take, drop}
 use mathlib.Core.Path.{refl, sym, ◌∙◌, ap}
 use mathlib.Core.Bool.{true≢false}
 use Prim.Native.Nat.{zero-le, suc-le-suc}

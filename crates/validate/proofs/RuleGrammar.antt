@@ -1,7 +1,7 @@
 -- The local rule is RFC 3629's. After a character's first byte the rule asks for the ranges of the other bytes of its alternative, one by one
 -- (`Owes`), and after the last of them nothing is open again; so a text obeys the rule exactly where it is UTF8-octets.
 -- Assumes nothing.
-use Rattle.core.specs.Prelude.{◌≡◌, ℕ, zero, suc, ◌+◌, ◌<◌, ◌≤◌, Bool, true, false, ◌&&◌, ◌||◌, leb, List, [], ◌∷◌, length, get_or, drop}
+use Rattle.std.specs.Prelude.{◌≡◌, ℕ, zero, suc, ◌+◌, ◌<◌, ◌≤◌, Bool, true, false, ◌&&◌, ◌||◌, leb, List, [], ◌∷◌, length, get_or, drop}
 use mathlib.Core.Path.{refl, sym, ◌∙◌, ap}
 use mathlib.Core.Bool.{true≢false}
 use Prim.Native.Nat.{zero-le}

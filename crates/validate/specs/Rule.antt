@@ -1,6 +1,6 @@
 -- The local rule of UTF-8: whether a byte is right after the three bytes before it, which count as 0 before a text's start. It asks nothing but
 -- comparisons of a byte and its neighbours, so that all places of a block can be looked at in one go.
-use Rattle.core.specs.Prelude.{◌≡◌, ℕ, suc, Bool, cond, not, ◌&&◌, ◌||◌, List, [], ◌∷◌, ◌==◌, nat_le, slice_index}
+use Rattle.std.specs.Prelude.{◌≡◌, ℕ, suc, Bool, cond, not, ◌&&◌, ◌||◌, List, [], ◌∷◌, ◌==◌, nat_le, slice_index}
 use Rattle.utf8.specs.Rfc3629.{Range, to, tail, within, well_formed}
 
 -- whether a byte has to continue a character, after p3, p2, p1: C2 and up begin one of two bytes or more, E0 and up one of three or

@@ -3,7 +3,7 @@
 // A run is passed over in blocks, large ones first, and what is left of it byte by byte. The loop over a block does not
 // branch on the text, so that it is compiled to a test of all its bytes at once, which costs no more
 // than that of one byte. The size of the blocks is a constant at each call, and the functions are inlined there.
-ghost use Rattle.core.specs.Prelude.{◌≡◌, ℕ, ◌+◌, ◌<◌, ◌≤◌, false, length, slice_index};
+ghost use Rattle.std.specs.Prelude.{◌≡◌, ℕ, ◌+◌, ◌<◌, ◌≤◌, false, length, slice_index};
 
 // The end of the run of ASCII from place at on.
 pub fn run_end(text: &[u8], at: usize) -> usize

@@ -2,10 +2,12 @@
 //
 // Proved: the answer is the one that utf8/specs/Rfc3629.antt gives from the grammar of the RFC, for every
 // byte string of any length. Nothing is assumed.
+#![tactic(auto)]
+
 mod ascii;
 mod rule;
 
-ghost use Rattle.core.specs.Prelude.{◌≡◌};
+ghost use Rattle.std.specs.Prelude.{◌≡◌};
 ghost use Rattle.utf8.specs.Rfc3629.{utf8_of};
 
 use utf8::Utf8;

@@ -2,7 +2,7 @@
 //
 // The loop over a block does not branch on the text: `&` and `|` on bools, unlike `&&` and `||`, leave it straight, so
 // that it is compiled to comparisons of many bytes at once.
-ghost use Rattle.core.specs.Prelude.{◌≡◌, ℕ, ◌+◌, ◌<◌, ◌≤◌, true, false, length, drop, slice_index};
+ghost use Rattle.std.specs.Prelude.{◌≡◌, ℕ, ◌+◌, ◌<◌, ◌≤◌, true, false, length, drop, slice_index};
 ghost use Rattle.utf8.specs.Rfc3629.{octets_from, utf8_of};
 ghost use Rattle.validate.specs.Rule.{right, right_at};
 

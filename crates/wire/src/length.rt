@@ -4,7 +4,7 @@ ghost use Rattle.std.specs.Prelude.{◌≡◌};
 ghost use Rattle.wire.specs.Length.{wire_size, terminated};
 
 // Bytes of a text, without its terminator: what a row holds.
-#[derive(Drop)]
+#[derive(Clone, Copy)]
 pub struct TextLength(pub u32);
 
 // Bytes that a text takes on the wire, with its terminator.

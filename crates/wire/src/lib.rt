@@ -3,6 +3,8 @@
 //
 // Proved: every function is total, has no `requires`, and answers or stores just what its definition in
 // specs/ says. Bytes past the end of a slice read as 0, and what would be stored past the end is dropped.
+#![tactic(auto)]
+
 mod bytes;
 mod length;
 mod number;

@@ -5,6 +5,8 @@
 //
 // Proved: the answer and the output afterwards are those that crate format defines (specs/Write.antt), for
 // every payload, edit text, table and output. Nothing is assumed.
+#![tactic(auto)]
+
 mod entry;
 mod position;
 mod run;

@@ -13,35 +13,29 @@ use Rattle.display.proofs.write_heading.Statement.{statement}
 use Rattle.display.proofs.write_heading.Tie as tie
 
 -- what the two stores leave
-first : (c : tie.After-write-bytes) → (let a = c.before.before.before.before.args in c.write_bytes.new.0 ≡ sets a.output.now 0 (ascii "// Shader Source Info: "))
+first : (c : tie.After-write_bytes) → (let a = c.before.before.before.before.args in c.write_bytes.new.0 ≡ sets a.output.now 0 (ascii "// Shader Source Info: "))
 unfolding ascii
 first c = c.write_bytes.ensures
 
-second : (c : tie.After-write-number) →
+second : (c : tie.After-write_number) →
     (let b = c.before.before.before.before.before in
     let a = b.before.before.before.before.args in
-    (c.write-number.result ≡ 23 + length (decimal a.count ++ ascii " section(s)\n"))
-    × ((c.write-number.result ≤ 45) × (c.write-number.new.0 ≡ sets b.write_bytes.new.0 23 (decimal a.count ++ ascii " section(s)\n"))))
+    (c.write_number.result ≡ 23 + length (decimal a.count ++ ascii " section(s)\n"))
+    × ((c.write_number.result ≤ 45) × (c.write_number.new.0 ≡ sets b.write_bytes.new.0 23 (decimal a.count ++ ascii " section(s)\n"))))
 unfolding ascii
-second c = let e = c.write-number.ensures in (e.0, (omega (arith, e.1.0), e.1.1))
+second c = let e = c.write_number.ensures in (e.0, (omega (arith, e.1.0), e.1.1))
 
 whole : (n : ℕ) → length (heading n) ≡ 23 + length (decimal n ++ ascii " section(s)\n")
 unfolding ascii
 whole n = omega arith
 
-slice-aggregate-write-bytes : tie.Need-slice-aggregate-write-bytes
-slice-aggregate-write-bytes c = search rules
-
-write-bytes-requires : tie.Need-write-bytes-requires
+write-bytes-requires : tie.Need-write_bytes-requires
 write-bytes-requires c κs = search rules
 
-slice-aggregate-write-number : tie.Need-slice-aggregate-write-number
-slice-aggregate-write-number c = search rules
-
-write-number-requires : tie.Need-write-number-requires
+write-number-requires : tie.Need-write_number-requires
 write-number-requires c κs = search rules
 
-same_length : tie.Need-same-length
+same_length : tie.Need-shape_of-output
 same_length c = search rules
 
 length-first : 23 ≡ 0 + length (ascii "// Shader Source Info: ")
@@ -56,6 +50,6 @@ returns c =
     let (next, (most, out)) = second n in
     (omega (arith, whole a.count), (most, rw (out, first b) (sets-joined (ascii "// Shader Source Info: ") (decimal a.count ++ ascii " section(s)\n") a.output.now 0 23 length-first)))
 
-pub write-heading-spec : {M : Type 1} → statement M
-write-heading-spec =
-    tie.close (tie.spec slice-aggregate-write-bytes write-bytes-requires slice-aggregate-write-number write-number-requires same_length returns)
+pub write_heading_spec : {M : Type 1} → statement M
+write_heading_spec =
+    tie.close (tie.spec write-bytes-requires write-number-requires same_length returns)

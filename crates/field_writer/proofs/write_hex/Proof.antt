@@ -14,15 +14,15 @@ use Rattle.field_writer.proofs.write_hex.Statement.{statement}
 use Rattle.field_writer.proofs.write_hex.Tie as tie
 
 -- a part is no longer than asked for
-short : (c : tie.After-part-of) → length c.part_of.result.now < 2 ^ 32
+short : (c : tie.After-part_of-part) → length c.part_of-part.result.now < 2 ^ 32
 short c =
     let a = c.before.before.before.before.before.before.before.before.args in
-    omega (arith, ap length c.part_of.ensures, length-take a.count (drop a.start a.bytes.now))
+    omega (arith, ap length c.part_of-part.ensures, length-take a.count (drop a.start a.bytes.now))
 
-write-pairs-requires : tie.Need-write-pairs-requires
+write-pairs-requires : tie.Need-write_pairs-requires
 write-pairs-requires c κs = omega (arith, short c.before)
 
-add-result : tie.Need-overflow-add-result
+add-result : tie.Need-overflow_add-result
 add-result c = omega (arith, short c.before.before.before.before)
 
 returns : tie.Need-returns
@@ -32,12 +32,12 @@ returns c =
     let first = p.before.before.before in
     let a = c.before.before.before.before.before.before.before.before.before.before.before.before.args in
     let bytes = part a.bytes.now a.start a.count in (
-      omega (arith, ap length p.part_of.ensures, length-hex_pairs bytes),
-      rw (pairs.write-pairs.ensures, p.part_of.ensures, first.write_bytes.ensures) (sets-joined (tab ∷ []) (hex_pairs bytes) a.output.now a.at (a.at + 1) refl),
+      omega (arith, ap length p.part_of-part.ensures, length-hex_pairs bytes),
+      rw (pairs.write_pairs.ensures, p.part_of-part.ensures, first.write_bytes.ensures) (sets-joined (tab ∷ []) (hex_pairs bytes) a.output.now a.at (a.at + 1) refl),
     )
 
-pub write-hex-spec : {M : Type 1} → statement M
-write-hex-spec =
+pub write_hex_spec : {M : Type 1} → statement M
+write_hex_spec =
     tie.close
     (tie.spec
     (λ c. search rules)

@@ -16,12 +16,12 @@ returns c =
     let number = c.before.before in
     let first = number.before.before.before.before in
     let a = c.before.before.before.before.before.before.before.before.before.before.args in (
-      omega (arith, number.write-decimal.ensures.0),
-      rw (number.write-decimal.ensures.1.1, first.write_bytes.ensures) (sets-joined (tab ∷ []) (decimal a.n) a.output.now a.at (a.at + 1) refl),
+      omega (arith, number.write_decimal-digits.ensures.0),
+      rw (number.write_decimal-digits.ensures.1.1, first.write_bytes.ensures) (sets-joined (tab ∷ []) (decimal a.n) a.output.now a.at (a.at + 1) refl),
     )
 
-pub write-number-spec : {M : Type 1} → statement M
-write-number-spec =
+pub write_number_spec : {M : Type 1} → statement M
+write_number_spec =
     tie.close
     (tie.spec
     (λ c. search rules)

@@ -12,11 +12,11 @@ use Rattle.sheet.specs.Fields.{tab, escape}
 use Rattle.field_writer.proofs.write_text.Statement.{statement}
 use Rattle.field_writer.proofs.write_text.Tie as tie
 
-write-escaped-requires : tie.Need-write-escaped-requires
+write-escaped-requires : tie.Need-write_escaped-requires
 write-escaped-requires c κs =
     let p = c.before in
     let a = p.before.before.before.before.before.before.before.before.before.args in
-    omega (arith, ap length p.part_of.ensures, length-take a.text.0 (drop a.start a.bytes.now))
+    omega (arith, ap length p.part_of-part.ensures, length-take a.text.0 (drop a.start a.bytes.now))
 
 returns : tie.Need-returns
 returns c =
@@ -25,12 +25,12 @@ returns c =
     let first = p.before.before.before.before in
     let a = p.before.before.before.before.before.before.before.before.before.args in
     let text = part a.bytes.now a.start a.text.0 in (
-      omega (arith, ap (λ l. length (escape l)) p.part_of.ensures, e.write-escaped.ensures.0),
-      rw (e.write-escaped.ensures.1, p.part_of.ensures, first.write_bytes.ensures) (sets-joined (tab ∷ []) (escape text) a.output.now a.at (a.at + 1) refl),
+      omega (arith, ap (λ l. length (escape l)) p.part_of-part.ensures, e.write_escaped.ensures.0),
+      rw (e.write_escaped.ensures.1, p.part_of-part.ensures, first.write_bytes.ensures) (sets-joined (tab ∷ []) (escape text) a.output.now a.at (a.at + 1) refl),
     )
 
-pub write-text-spec : {M : Type 1} → statement M
-write-text-spec =
+pub write_text_spec : {M : Type 1} → statement M
+write_text_spec =
     tie.close
     (tie.spec
     (λ c. search rules)

@@ -11,37 +11,37 @@ use Rattle.frames.proofs.Closed.{body-first}
 use Rattle.frames.proofs.close_names.Statement.{statement}
 use Rattle.frames.proofs.close_names.Tie as tie
 
-add-distance : tie.Need-overflow-add-distance
+add-distance : tie.Need-overflow_add-at
 add-distance c = search rules
 
-distance-requires : tie.Need-distance-requires
+distance-requires : tie.Need-distance-bytes-requires
 distance-requires c κs = search rules
 
-add-write-u32 : tie.Need-overflow-add-write-u32
+add-write-u32 : tie.Need-overflow_add-at-2
 add-write-u32 c = search rules
 
-write-u32-requires : tie.Need-write-u32-requires
+write-u32-requires : tie.Need-write_u32-requires
 write-u32-requires c κs = search rules
 
-add-write-u32-2 : tie.Need-overflow-add-write-u32-2
+add-write-u32-2 : tie.Need-overflow_add-at-3
 add-write-u32-2 c = search rules
 
-write-u32-requires-2 : tie.Need-write-u32-requires-2
+write-u32-requires-2 : tie.Need-write_u32-requires-2
 write-u32-requires-2 c κs = search rules
 
-add-write-u16 : tie.Need-overflow-add-write-u16
+add-write-u16 : tie.Need-overflow_add-at-4
 add-write-u16 c = search rules
 
-cast-write-u16 : tie.Need-overflow-cast-write-u16
+cast-write-u16 : tie.Need-overflow_cast-bytes
 cast-write-u16 c = search rules
 
-write-u16-requires : tie.Need-write-u16-requires
+write-u16-requires : tie.Need-write_u16-requires
 write-u16-requires c κs = search rules
 
-close-section-requires : tie.Need-close-section-requires
+close-section-requires : tie.Need-close_section-requires
 close-section-requires c κs = search rules
 
-same_length : tie.Need-same-length
+same_length : tie.Need-shape_of-output
 same_length c = search rules
 
 returns : tie.Need-returns
@@ -51,8 +51,8 @@ returns c =
     let fields = fields-stored 0 4 a.count (u16 bytes) a.output.now (a.start + 8) (a.start + 12) (a.start + 16) (omega arith) (omega arith) in
     (omega arith, cc (bytes_of-low 2 bytes, fields, body-first (names_header bytes a.count) a.output.now a.start a.end SourceNames))
 
-pub close-names-spec : {M : Type 1} → statement M
-close-names-spec =
+pub close_names_spec : {M : Type 1} → statement M
+close_names_spec =
     tie.close
     (tie.spec
     add-distance

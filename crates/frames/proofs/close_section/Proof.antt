@@ -14,43 +14,43 @@ use Rattle.frames.specs.Frame.{section_header, framed}
 use Rattle.frames.proofs.close_section.Statement.{statement}
 use Rattle.frames.proofs.close_section.Tie as tie
 
-distance-requires : tie.Need-distance-requires
+distance-requires : tie.Need-distance-length-requires
 distance-requires c κs = search rules
 
-padding-length-requires : tie.Need-padding-length-requires
+padding-length-requires : tie.Need-padding_length-zeros-requires
 padding-length-requires c κs = search rules
 
-add-size : tie.Need-overflow-add-size
-add-size c = omega (arith, padding-below c.before.distance.result)
+add-size : tie.Need-overflow_add-size
+add-size c = omega (arith, padding-below c.before.distance-length.result)
 
-cast-write-u32 : tie.Need-overflow-cast-write-u32
+cast-write-u32 : tie.Need-overflow_cast-size
 cast-write-u32 c = search rules
 
-write-u32-requires : tie.Need-write-u32-requires
+write-u32-requires : tie.Need-write_u32-requires
 write-u32-requires c κs = search rules
 
-add-write-u16 : tie.Need-overflow-add-write-u16
+add-write-u16 : tie.Need-overflow_add-at
 add-write-u16 c = search rules
 
-write-u16-requires : tie.Need-write-u16-requires
+write-u16-requires : tie.Need-write_u16-requires
 write-u16-requires c κs = search rules
 
-add-write-u16-2 : tie.Need-overflow-add-write-u16-2
+add-write-u16-2 : tie.Need-overflow_add-at-2
 add-write-u16-2 c = search rules
 
-to-u16-requires : tie.Need-to-u16-requires
+to-u16-requires : tie.Need-to_u16-requires
 to-u16-requires c κs = search rules
 
-write-u16-requires-2 : tie.Need-write-u16-requires-2
+write-u16-requires-2 : tie.Need-write_u16-requires-2
 write-u16-requires-2 c κs = search rules
 
-write-zeros-requires : tie.Need-write-zeros-requires
+write-zeros-requires : tie.Need-write_zeros-requires
 write-zeros-requires c κs = search rules
 
-add-result : tie.Need-overflow-add-result
-add-result c = omega (arith, padding-below c.before.before.before.before.before.before.before.before.before.before.before.before.before.before.before.before.before.before.distance.result)
+add-result : tie.Need-overflow_add-result
+add-result c = omega (arith, padding-below c.before.before.before.before.before.before.before.before.before.before.before.before.before.before.before.before.before.before.distance-length.result)
 
-same_length : tie.Need-same-length
+same_length : tie.Need-shape_of-output
 same_length c = search rules
 
 returns : tie.Need-returns
@@ -59,14 +59,14 @@ returns c =
     let padded = c.before.before.before.before.before.before.before.before.before.before.before.before.before.before.before.before.before in
     let measured = padded.before in
     let a = measured.before.before.args in
-    let zeros : padded.padding-length.result ≡ padding (a.end - a.start) = padded.padding-length.ensures ∙ ap padding measured.distance.ensures in
+    let zeros : padded.padding_length-zeros.result ≡ padding (a.end - a.start) = padded.padding_length-zeros.ensures ∙ ap padding measured.distance-length.ensures in
     let size : ℕ = aligned (a.end - a.start) in
     let number : ℕ = kind_number a.kind in
     let fields = fields-stored size 2 0 (u16 number) a.output.now a.start (a.start + 4) (a.start + 6) refl (omega arith) in
     (omega arith, cc (bytes_of-low 4 size, fields, append-nil (section_header size number)))
 
-pub close-section-spec : {M : Type 1} → statement M
-close-section-spec =
+pub close_section_spec : {M : Type 1} → statement M
+close_section_spec =
     tie.close
     (tie.spec
     distance-requires

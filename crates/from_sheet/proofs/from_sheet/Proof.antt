@@ -16,24 +16,24 @@ use Rattle.from_sheet.proofs.from_sheet.Statement.{statement}
 use Rattle.from_sheet.proofs.from_sheet.Tie as tie
 
 -- the payload that was measured
-measured : (n : tie.After-size) → (
+measured : (n : tie.In-Bytes-2) → (
     let a = n.before.before.before.before.before.args in
-    (p : List ℕ) × (from_sheet a.sheet.now ≡ good p) × (length p ≡ n.size.given.0.0))
-measured n = sized-bytes _ _ (sym n.before.before.measure.ensures ∙ n.size.given.1)
+    (p : List ℕ) × (from_sheet a.sheet.now ≡ good p) × (length p ≡ n.size-1.given.0.0))
+measured n = sized-bytes _ _ (sym n.before.before.measure.ensures ∙ n.size-1.given.1)
 
 measure-requires : tie.Need-measure-requires
 measure-requires c κs = search rules
 
-enum-known-refusal : tie.Need-enum-known-refusal
+enum-known-refusal : tie.Need-enum_known-refusal
 enum-known-refusal c = search rules
 
-enum-known-size : tie.Need-enum-known-size
+enum-known-size : tie.Need-enum_known-size
 enum-known-size c = search rules
 
-cast-if1 : tie.Need-overflow-cast-if1
+cast-if1 : tie.Need-overflow_cast-size
 cast-if1 c = search rules
 
-returns : tie.Need-returns
+returns : tie.Need-returns-then-output-size
 unfolding from_sheet_answer from_sheet_output
 returns c =
     let n = c.before.before in
@@ -41,7 +41,7 @@ returns c =
     let (p, is, size) = measured n in
     told-no-room (from_sheet a.sheet.now) a.output.now is _ (sym size) (omega arith)
 
-store-srci-requires : tie.Need-store-srci-requires
+store-srci-requires : tie.Need-store_srci-requires
 store-srci-requires c κs =
     let n = c.before.before.before in
     let a = n.before.before.before.before.before.args in
@@ -49,18 +49,18 @@ store-srci-requires c κs =
     let all = payload-read a.sheet.now p is in
     (all.sound, (all.few, (sym size ∙ ap length all.is, (omega arith, omega (arith, all.small)))))
 
-returns-2 : tie.Need-returns-2
+returns-2 : tie.Need-returns-in-Refused
 unfolding from_sheet_answer from_sheet_output
 returns-2 c =
     let m = c.before.before.before in
     let a = m.before.before.before.args in
-    let told = refused _ a.output.now (sized-refused _ _ (sym m.measure.ensures ∙ c.before.refusal.given.1)) in
+    let told = refused _ a.output.now (sized-refused _ _ (sym m.measure.ensures ∙ c.before.refusal-1.given.1)) in
     (sym told.0, sym told.1)
 
-same_length : tie.Need-same-length
+same_length : tie.Need-shape_of-output
 same_length c = search rules
 
-returns-3 : tie.Need-returns-3
+returns-3 : tie.Need-returns-else-output-size
 unfolding from_sheet_answer from_sheet_output
 returns-3 c =
     let f = c.before.before in
@@ -68,10 +68,10 @@ returns-3 c =
     let a = n.before.before.before.before.before.args in
     let (p, is, size) = measured n in
     let (answered, left) = told-room (from_sheet a.sheet.now) a.output.now is _ (sym size) (omega arith) in
-    (answered, f.store-srci.ensures ∙ ap (λ (l : List ℕ). sets a.output.now 0 l) (sym (payload-read a.sheet.now p is).is) ∙ left)
+    (answered, f.store_srci.ensures ∙ ap (λ (l : List ℕ). sets a.output.now 0 l) (sym (payload-read a.sheet.now p is).is) ∙ left)
 
-pub from-sheet-spec : {M : Type 1} → statement M
-from-sheet-spec =
+pub from_sheet_spec : {M : Type 1} → statement M
+from_sheet_spec =
     tie.close
     (tie.spec
     measure-requires

@@ -11,36 +11,36 @@ use Rattle.print.proofs.print_card.Statement.{statement}
 use Rattle.print.proofs.print_card.Tie as tie
 
 -- the output's length
-whole : (c : tie.After-card-arg) → length c.before.before.before.args.output.now ≡ print_limit
-whole c = omega (arith, c.card-arg.given)
+whole : (c : tie.After-card-arg-1) → length c.before.before.before.args.output.now ≡ print_limit
+whole c = omega (arith, c.card-arg-1.given)
 
-whole' : (c : tie.After-print-longer-arg) → length c.before.before.before.args.output.now ≡ print_limit
-whole' c = omega (arith, c.print-longer-arg.given)
+whole' : (c : tie.After-print_longer-arg-1) → length c.before.before.before.args.output.now ≡ print_limit
+whole' c = omega (arith, c.print_longer-arg-1.given)
 
-print-longer-requires : tie.Need-print-longer-requires
+print-longer-requires : tie.Need-print_longer-requires
 print-longer-requires c κs = search rules
 
-returns : tie.Need-returns
+returns : tie.Need-returns-then-input-gt-MOST
 returns c =
     let long = c.before.before in
     let a = long.before.before.args in
-    longer-printed card_of a.input.now a.output.now (whole' c.before) long.if1.true c.print-longer.ensures
+    longer-printed card_of a.input.now a.output.now (whole' c.before) long.if-input-gt-MOST.true c.print_longer.ensures
 
-card-requires : tie.Need-card-requires
+card-requires : tie.Need-card-answer-requires
 card-requires c κs = search rules
 
-print-answer-requires : tie.Need-print-answer-requires
+print-answer-requires : tie.Need-print_answer-requires
 print-answer-requires c κs = search rules
 
-returns-2 : tie.Need-returns-2
+returns-2 : tie.Need-returns
 unfolding card_answer card_output
 returns-2 c =
     let l = c.before.before in
     let a = l.before.before.before.before.args in
-    answer-printed card_of a.input.now a.output.now (whole l.before) (omega (arith, l.before.before.if1.false)) l.card.ensures c.print-answer.ensures
+    answer-printed card_of a.input.now a.output.now (whole l.before) (omega (arith, l.before.before.if-input-gt-MOST.false)) l.card-answer.ensures c.print_answer.ensures
 
-pub print-card-spec : {M : Type 1} → statement M
-print-card-spec =
+pub print_card_spec : {M : Type 1} → statement M
+print_card_spec =
     tie.close
     (tie.spec
     print-longer-requires

@@ -11,36 +11,36 @@ use Rattle.print.proofs.print_listing.Statement.{statement}
 use Rattle.print.proofs.print_listing.Tie as tie
 
 -- the output's length
-whole : (c : tie.After-list-arg) → length c.before.before.before.args.output.now ≡ print_limit
-whole c = omega (arith, c.list-arg.given)
+whole : (c : tie.After-list-arg-1) → length c.before.before.before.args.output.now ≡ print_limit
+whole c = omega (arith, c.list-arg-1.given)
 
-whole' : (c : tie.After-print-longer-arg) → length c.before.before.before.args.output.now ≡ print_limit
-whole' c = omega (arith, c.print-longer-arg.given)
+whole' : (c : tie.After-print_longer-arg-1) → length c.before.before.before.args.output.now ≡ print_limit
+whole' c = omega (arith, c.print_longer-arg-1.given)
 
-print-longer-requires : tie.Need-print-longer-requires
+print-longer-requires : tie.Need-print_longer-requires
 print-longer-requires c κs = search rules
 
-returns : tie.Need-returns
+returns : tie.Need-returns-then-input-gt-MOST
 returns c =
     let long = c.before.before in
     let a = long.before.before.args in
-    longer-printed listed a.input.now a.output.now (whole' c.before) long.if1.true c.print-longer.ensures
+    longer-printed listed a.input.now a.output.now (whole' c.before) long.if-input-gt-MOST.true c.print_longer.ensures
 
-list-requires : tie.Need-list-requires
+list-requires : tie.Need-list-answer-requires
 list-requires c κs = search rules
 
-print-answer-requires : tie.Need-print-answer-requires
+print-answer-requires : tie.Need-print_answer-requires
 print-answer-requires c κs = search rules
 
-returns-2 : tie.Need-returns-2
+returns-2 : tie.Need-returns
 unfolding list_answer list_output
 returns-2 c =
     let l = c.before.before in
     let a = l.before.before.before.before.args in
-    answer-printed listed a.input.now a.output.now (whole l.before) (omega (arith, l.before.before.if1.false)) l.list.ensures c.print-answer.ensures
+    answer-printed listed a.input.now a.output.now (whole l.before) (omega (arith, l.before.before.if-input-gt-MOST.false)) l.list-answer.ensures c.print_answer.ensures
 
-pub print-listing-spec : {M : Type 1} → statement M
-print-listing-spec =
+pub print_listing_spec : {M : Type 1} → statement M
+print_listing_spec =
     tie.close
     (tie.spec
     print-longer-requires

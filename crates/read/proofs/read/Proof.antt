@@ -22,22 +22,22 @@ use Rattle.read.specs.Store.{store_rows}
 use Rattle.read.proofs.read.Tie as tie
 
 -- the rows that were counted
-rows : (n : tie.After-count) → (let p = n.before.before.before.before.before.args.payload.now in (rs : List Row) × (parse p ≡ good rs) × (length rs ≡ n.count.given.0.0))
-rows n = rows-counted _ _ (sym n.before.before.parse-srci.ensures ∙ n.count.given.1)
+rows : (n : tie.In-Rows-2) → (let p = n.before.before.before.before.before.args.payload.now in (rs : List Row) × (parse p ≡ good rs) × (length rs ≡ n.count-1.given.0.0))
+rows n = rows-counted _ _ (sym n.before.before.parse_srci.ensures ∙ n.count-1.given.1)
 
-parse-srci-requires : tie.Need-parse-srci-requires
+parse-srci-requires : tie.Need-parse_srci-requires
 parse-srci-requires c κs = search rules
 
-enum-known-refusal : tie.Need-enum-known-refusal
+enum-known-refusal : tie.Need-enum_known-refusal
 enum-known-refusal c = search rules
 
-enum-known-count : tie.Need-enum-known-count
+enum-known-count : tie.Need-enum_known-count
 enum-known-count c = search rules
 
-cast-if1 : tie.Need-overflow-cast-if1
+cast-if1 : tie.Need-overflow_cast-count
 cast-if1 c = search rules
 
-returns : tie.Need-returns
+returns : tie.Need-returns-then-rows-count
 returns c =
     let n = c.before.before in
     let a = n.before.before.before.before.before.args in
@@ -45,23 +45,23 @@ returns c =
     let short = too_few a.payload.now a.rows.now is (omega arith) in
     (ap (λ (k : ℕ). Refused (NoRows k)) (sym count) ∙ sym short.0, sym short.1)
 
-fill-srci-requires : tie.Need-fill-srci-requires
+fill-srci-requires : tie.Need-fill_srci-requires
 fill-srci-requires c κs =
     let n = c.before.before.before in
     let (rs, is, count) = rows n in
     ap is_good is
 
-returns-2 : tie.Need-returns-2
+returns-2 : tie.Need-returns-in-Refused
 returns-2 c =
     let s = c.before.before.before in
     let a = s.before.before.before.args in
-    let all = refused a.payload.now a.rows.now (rows-refused _ _ (sym s.parse-srci.ensures ∙ c.before.refusal.given.1)) in
+    let all = refused a.payload.now a.rows.now (rows-refused _ _ (sym s.parse_srci.ensures ∙ c.before.refusal-1.given.1)) in
     (sym all.0, sym all.1)
 
-same_length : tie.Need-same-length
+same_length : tie.Need-shape_of-rows
 same_length c = search rules
 
-returns-3 : tie.Need-returns-3
+returns-3 : tie.Need-returns-else-rows-count
 returns-3 c =
     let f = c.before.before in
     let n = f.before.before.before.before in
@@ -70,7 +70,7 @@ returns-3 c =
     let room : length rs ≤ length a.rows.now / width = omega (arith, count) in
     let all = held a.payload.now a.rows.now is room in (
       ap Accepted (sym count) ∙ sym all.0,
-      f.fill-srci.ensures
+      f.fill_srci.ensures
           ∙ ap (λ (w : List Row). store_rows a.rows.now 0 w) (sym (parse-walk a.payload.now rs is))
           ∙ stored-from-start rs a.rows.now room
           ∙ sym all.1,

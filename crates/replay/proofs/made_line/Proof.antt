@@ -7,56 +7,56 @@ use borrow.Author.Rules.{rules}
 use Rattle.replay.proofs.made_line.Statement.{statement}
 use Rattle.replay.proofs.made_line.Tie as tie
 
-find-requires : tie.Need-find-requires
+find-requires : tie.Need-find-space-requires
 find-requires c κs = search rules
 
-returns : tie.Need-returns
+returns : tie.Need-returns-then-space-fields
 returns c = search rules
 
-slice-aggregate-number : tie.Need-slice-aggregate-number
+slice-aggregate-number : tie.Need-slice_bounds-number-end
 slice-aggregate-number c = sym (length-take-le _ _ (omega arith))
 
-number-requires : tie.Need-number-requires
+number-requires : tie.Need-number-lent-requires
 number-requires c κs = search rules
 
-returns-2 : tie.Need-returns-2
+returns-2 : tie.Need-returns-then-lent-gt-BYTES
 returns-2 c = search rules
 
-add_start : tie.Need-overflow-add-start
+add_start : tie.Need-overflow_add-start
 add_start c = search rules
 
-buffer-requires : tie.Need-buffer-requires
+buffer-requires : tie.Need-buffer-input-requires
 buffer-requires c κs = search rules
 
-sub-decode : tie.Need-overflow-sub-decode
+sub-decode : tie.Need-slice_bounds-decode-count
 sub-decode c = search rules
 
-part-decode-start : tie.Need-slice-bounds-decode-start
+part-decode-start : tie.Need-slice_bounds-decode-start
 part-decode-start c = search rules
 
-part-decode-end : tie.Need-slice-bounds-decode-end
+part-decode-end : tie.Need-slice_bounds-decode-end
 part-decode-end c = search rules
 
-slice-aggregate-decode : tie.Need-slice-aggregate-decode
+slice-aggregate-decode : tie.Need-slice_bounds-decode-end-2
 slice-aggregate-decode c = search rules
 
-decode-requires : tie.Need-decode-requires
+decode-requires : tie.Need-decode-count-requires
 decode-requires c κs = search rules
 
-array-share-prefix-input : tie.Need-array-share-prefix-input
+array-share-prefix-input : tie.Need-slice_bounds-input-end
 array-share-prefix-input c = search rules
 
-slice-aggregate-replay-made : tie.Need-slice-aggregate-replay-made
+slice-aggregate-replay-made : tie.Need-slice_bounds-replay_made-end
 slice-aggregate-replay-made c = sym (length-take-le _ _ (omega arith))
 
-replay-made-requires : tie.Need-replay-made-requires
+replay-made-requires : tie.Need-replay_made-requires
 replay-made-requires c κs = search rules
 
-returns-3 : tie.Need-returns-3
+returns-3 : tie.Need-returns
 returns-3 c = search rules
 
-pub made-line-spec : {M : Type 1} → statement M
-made-line-spec =
+pub made_line_spec : {M : Type 1} → statement M
+made_line_spec =
     tie.close
     (tie.spec
     find-requires

@@ -7,41 +7,38 @@ use borrow.Author.Rules.{rules}
 use Rattle.replay.proofs.print_table.Statement.{statement}
 use Rattle.replay.proofs.print_table.Tie as tie
 
-mul-untouched : tie.Need-overflow-mul-untouched
+mul-untouched : tie.Need-offset_bounds-numbers-stored
 mul-untouched c = search rules
 
-sub-untouched : tie.Need-overflow-sub-untouched
+sub-untouched : tie.Need-slice_bounds-untouched-count
 sub-untouched c = search rules
 
-part-untouched-start : tie.Need-slice-bounds-untouched-start
+part-untouched-start : tie.Need-slice_bounds-untouched-start
 part-untouched-start c = search rules
 
-part-untouched-end : tie.Need-slice-bounds-untouched-end
+part-untouched-end : tie.Need-slice_bounds-untouched-end
 part-untouched-end c = search rules
 
 untouched-requires : tie.Need-untouched-requires
 untouched-requires c κs = search rules
 
-print-decimal-requires : tie.Need-print-decimal-requires
+print-decimal-requires : tie.Need-print_decimal-requires
 print-decimal-requires c κs = search rules
 
-slice-aggregate-print-numbers : tie.Need-slice-aggregate-print-numbers
+slice-aggregate-print-numbers : tie.Need-slice_bounds-print_numbers-end
 slice-aggregate-print-numbers c = sym (length-take-le _ _ (omega arith))
 
-print-numbers-requires : tie.Need-print-numbers-requires
+print-numbers-requires : tie.Need-print_numbers-requires
 print-numbers-requires c κs = search rules
 
-slice-aggregate-write-all : tie.Need-slice-aggregate-write-all
-slice-aggregate-write-all c = search rules
-
-write-all-requires : tie.Need-write-all-requires
+write-all-requires : tie.Need-write_all-requires
 write-all-requires c κs = search rules
 
 returns : tie.Need-returns
 returns c = search rules
 
-pub print-table-spec : {M : Type 1} → statement M
-print-table-spec =
+pub print_table_spec : {M : Type 1} → statement M
+print_table_spec =
     tie.close
     (tie.spec
     mul-untouched
@@ -52,6 +49,5 @@ print-table-spec =
     print-decimal-requires
     slice-aggregate-print-numbers
     print-numbers-requires
-    slice-aggregate-write-all
     write-all-requires
     returns)

@@ -7,56 +7,56 @@ use borrow.Author.Rules.{rules}
 use Rattle.replay.proofs.read_line.Statement.{statement}
 use Rattle.replay.proofs.read_line.Tie as tie
 
-find-requires : tie.Need-find-requires
+find-requires : tie.Need-find-space-requires
 find-requires c κs = search rules
 
-returns : tie.Need-returns
+returns : tie.Need-returns-then-space-fields
 returns c = search rules
 
-slice-aggregate-number : tie.Need-slice-aggregate-number
+slice-aggregate-number : tie.Need-slice_bounds-number-end
 slice-aggregate-number c = sym (length-take-le _ _ (omega arith))
 
-number-requires : tie.Need-number-requires
+number-requires : tie.Need-number-lent-requires
 number-requires c κs = search rules
 
-returns-2 : tie.Need-returns-2
+returns-2 : tie.Need-returns-then-lent-gt-NUMBERS
 returns-2 c = search rules
 
-add_start : tie.Need-overflow-add-start
+add_start : tie.Need-overflow_add-start
 add_start c = search rules
 
-buffer-requires : tie.Need-buffer-requires
+buffer-requires : tie.Need-buffer-payload-requires
 buffer-requires c κs = search rules
 
-sub-decode : tie.Need-overflow-sub-decode
+sub-decode : tie.Need-slice_bounds-decode-count
 sub-decode c = search rules
 
-part-decode-start : tie.Need-slice-bounds-decode-start
+part-decode-start : tie.Need-slice_bounds-decode-start
 part-decode-start c = search rules
 
-part-decode-end : tie.Need-slice-bounds-decode-end
+part-decode-end : tie.Need-slice_bounds-decode-end
 part-decode-end c = search rules
 
-slice-aggregate-decode : tie.Need-slice-aggregate-decode
+slice-aggregate-decode : tie.Need-slice_bounds-decode-end-2
 slice-aggregate-decode c = search rules
 
-decode-requires : tie.Need-decode-requires
+decode-requires : tie.Need-decode-count-requires
 decode-requires c κs = search rules
 
-array-share-prefix-payload : tie.Need-array-share-prefix-payload
+array-share-prefix-payload : tie.Need-slice_bounds-payload-end
 array-share-prefix-payload c = search rules
 
-slice-aggregate-replay-read : tie.Need-slice-aggregate-replay-read
+slice-aggregate-replay-read : tie.Need-slice_bounds-replay_read-end
 slice-aggregate-replay-read c = sym (length-take-le _ _ (omega arith))
 
-replay-read-requires : tie.Need-replay-read-requires
+replay-read-requires : tie.Need-replay_read-requires
 replay-read-requires c κs = search rules
 
-returns-3 : tie.Need-returns-3
+returns-3 : tie.Need-returns
 returns-3 c = search rules
 
-pub read-line-spec : {M : Type 1} → statement M
-read-line-spec =
+pub read_line_spec : {M : Type 1} → statement M
+read_line_spec =
     tie.close
     (tie.spec
     find-requires

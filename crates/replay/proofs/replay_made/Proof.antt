@@ -7,29 +7,29 @@ use borrow.Author.Rules.{rules}
 use Rattle.replay.proofs.replay_made.Statement.{statement}
 use Rattle.replay.proofs.replay_made.Tie as tie
 
-array-borrow-prefix-output : tie.Need-array-borrow-prefix-output
+array-borrow-prefix-output : tie.Need-slice_bounds-output-end
 array-borrow-prefix-output c = search rules
 
-slice-aggregate-make : tie.Need-slice-aggregate-make
+slice-aggregate-make : tie.Need-slice_bounds-make-end
 slice-aggregate-make c = sym (length-take-le _ _ (omega arith))
 
-make-requires : tie.Need-make-requires
+make-requires : tie.Need-make-answer-requires
 make-requires c κs = search rules
 
-print-answer-requires : tie.Need-print-answer-requires
+print-answer-requires : tie.Need-print_answer-requires
 print-answer-requires c κs = search rules
 
 stored-requires : tie.Need-stored-requires
 stored-requires c κs = search rules
 
-print-output-requires : tie.Need-print-output-requires
+print-output-requires : tie.Need-print_output-requires
 print-output-requires c κs = search rules
 
 returns : tie.Need-returns
 returns c = search rules
 
-pub replay-made-spec : {M : Type 1} → statement M
-replay-made-spec =
+pub replay_made_spec : {M : Type 1} → statement M
+replay_made_spec =
     tie.close
     (tie.spec
     array-borrow-prefix-output

@@ -7,32 +7,32 @@ use borrow.Author.Rules.{rules}
 use Rattle.replay.proofs.replay_read.Statement.{statement}
 use Rattle.replay.proofs.replay_read.Tie as tie
 
-array-borrow-prefix-table : tie.Need-array-borrow-prefix-table
+array-borrow-prefix-table : tie.Need-slice_bounds-table-end
 array-borrow-prefix-table c = search rules
 
-slice-aggregate-read : tie.Need-slice-aggregate-read
+slice-aggregate-read : tie.Need-slice_bounds-read-end
 slice-aggregate-read c = sym (length-take-le _ _ (omega arith))
 
-read-requires : tie.Need-read-requires
+read-requires : tie.Need-read-answer-requires
 read-requires c κs = search rules
 
-print-answer-requires : tie.Need-print-answer-requires
+print-answer-requires : tie.Need-print_answer-requires
 print-answer-requires c κs = search rules
 
 stored-requires : tie.Need-stored-requires
 stored-requires c κs = search rules
 
-mul-print-table : tie.Need-overflow-mul-print-table
+mul-print-table : tie.Need-overflow_mul-stored
 mul-print-table c = search rules
 
-print-table-requires : tie.Need-print-table-requires
+print-table-requires : tie.Need-print_table-requires
 print-table-requires c κs = search rules
 
 returns : tie.Need-returns
 returns c = search rules
 
-pub replay-read-spec : {M : Type 1} → statement M
-replay-read-spec =
+pub replay_read_spec : {M : Type 1} → statement M
+replay_read_spec =
     tie.close
     (tie.spec
     array-borrow-prefix-table

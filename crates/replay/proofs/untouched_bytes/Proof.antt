@@ -8,35 +8,35 @@ use borrow.Author.Rules.{rules}
 use Rattle.replay.proofs.untouched_bytes.Statement.{statement}
 use Rattle.replay.proofs.untouched_bytes.Tie as tie
 
-abbrev invariant-loop : tie.invariant-loop
+abbrev invariant-loop : tie.invariant-loop-i
 invariant-loop bytes count₀ i₀ count i = count ≤ i
 
-abbrev decreases-loop : tie.decreases-loop
+abbrev decreases-loop : tie.decreases-loop-i
 decreases-loop bytes count₀ i₀ count i = length bytes - i
 
-loop-holds : tie.Need-loop-init invariant-loop decreases-loop
+loop-holds : tie.Need-loop-i-init invariant-loop decreases-loop
 loop-holds c = search rules
 
-shared-slice-read-if1 : tie.Need-shared-slice-read-if1 invariant-loop decreases-loop
+shared-slice-read-if1 : tie.Need-bounds-bytes-i invariant-loop decreases-loop
 shared-slice-read-if1 c = search rules
 
-add-count : tie.Need-overflow-add-count invariant-loop decreases-loop
+add-count : tie.Need-overflow_add-count invariant-loop decreases-loop
 add-count c = search rules
 
-add-i : tie.Need-overflow-add-i invariant-loop decreases-loop
+add-i : tie.Need-overflow_add-i invariant-loop decreases-loop
 add-i c = search rules
 
-loop-less : tie.Need-loop-smaller invariant-loop decreases-loop
+loop-less : tie.Need-loop-i-smaller invariant-loop decreases-loop
 loop-less c = search rules
 
-loop-again : tie.Need-loop-preserved invariant-loop decreases-loop
-loop-again c = ⊎_elim (λ w. omega arith) (λ w. omega arith) c.if1.branch
+loop-again : tie.Need-loop-i-preserved invariant-loop decreases-loop
+loop-again c = ⊎_elim (λ w. omega arith) (λ w. omega arith) c.if-bytes-i.branch-raw
 
 returns : tie.Need-returns invariant-loop decreases-loop
 returns c = search rules
 
-pub untouched-bytes-spec : {M : Type 1} → statement M
-untouched-bytes-spec =
+pub untouched_bytes_spec : {M : Type 1} → statement M
+untouched_bytes_spec =
     tie.close
     (tie.spec
     invariant-loop

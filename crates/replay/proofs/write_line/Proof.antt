@@ -7,41 +7,41 @@ use borrow.Author.Rules.{rules}
 use Rattle.replay.proofs.write_line.Statement.{statement}
 use Rattle.replay.proofs.write_line.Tie as tie
 
-find-requires : tie.Need-find-requires
+find-requires : tie.Need-find-space-requires
 find-requires c κs = search rules
 
-returns : tie.Need-returns
+returns : tie.Need-returns-then-space-fields
 returns c = search rules
 
-slice-aggregate-number : tie.Need-slice-aggregate-number
+slice-aggregate-number : tie.Need-slice_bounds-number-end
 slice-aggregate-number c = sym (length-take-le _ _ (omega arith))
 
-number-requires : tie.Need-number-requires
+number-requires : tie.Need-number-lent-requires
 number-requires c κs = search rules
 
-returns-2 : tie.Need-returns-2
+returns-2 : tie.Need-returns-then-lent-gt-BYTES
 returns-2 c = search rules
 
-add_start : tie.Need-overflow-add-start
+add_start : tie.Need-overflow_add-start
 add_start c = search rules
 
-sub-write-fields : tie.Need-overflow-sub-write-fields
+sub-write-fields : tie.Need-slice_bounds-write_fields-count
 sub-write-fields c = search rules
 
-part-write-fields-start : tie.Need-slice-bounds-write-fields-start
+part-write-fields-start : tie.Need-slice_bounds-write_fields-start
 part-write-fields-start c = search rules
 
-part-write-fields-end : tie.Need-slice-bounds-write-fields-end
+part-write-fields-end : tie.Need-slice_bounds-write_fields-end
 part-write-fields-end c = search rules
 
-write-fields-requires : tie.Need-write-fields-requires
+write-fields-requires : tie.Need-write_fields-requires
 write-fields-requires c κs = search rules
 
-returns-3 : tie.Need-returns-3
+returns-3 : tie.Need-returns
 returns-3 c = search rules
 
-pub write-line-spec : {M : Type 1} → statement M
-write-line-spec =
+pub write_line_spec : {M : Type 1} → statement M
+write_line_spec =
     tie.close
     (tie.spec
     find-requires

@@ -8,30 +8,30 @@ use borrow.Author.Rules.{rules}
 use Rattle.show_card.proofs.main.Statement.{statement}
 use Rattle.show_card.proofs.main.Tie as tie
 
-slice-aggregate-read-full : tie.Need-slice-aggregate-read-full
+slice-aggregate-read-full : tie.Need-slice_bounds-read_full-end
 slice-aggregate-read-full c = search rules
 
-read-full-requires : tie.Need-read-full-requires
+read-full-requires : tie.Need-read_full-count-requires
 read-full-requires c κs = search rules
 
-array-share-prefix-input : tie.Need-array-share-prefix-input
+array-share-prefix-input : tie.Need-slice_bounds-input-end
 array-share-prefix-input c = search rules
 
-slice-aggregate-print-card : tie.Need-slice-aggregate-print-card
+slice-aggregate-print-card : tie.Need-slice_bounds-print_card-end
 slice-aggregate-print-card c = search rules
 
-print-card-requires : tie.Need-print-card-requires
+print-card-requires : tie.Need-print_card-size-requires
 print-card-requires c κs = search rules
 
-array-share-prefix-output : tie.Need-array-share-prefix-output
+array-share-prefix-output : tie.Need-slice_bounds-output-end
 array-share-prefix-output c =
-    let (size, out) = c.print-card.ensures in
+    let (size, out) = c.print_card-size.ensures in
     rw (out, length-append) (omega (arith, size))
 
-slice-aggregate-write-all : tie.Need-slice-aggregate-write-all
+slice-aggregate-write-all : tie.Need-slice_bounds-write_all-end
 slice-aggregate-write-all c = sym (length-take-le _ _ (array-share-prefix-output c.before))
 
-write-all-requires : tie.Need-write-all-requires
+write-all-requires : tie.Need-write_all-requires
 write-all-requires c κs = search rules
 
 returns : tie.Need-returns

@@ -6,20 +6,20 @@ use Rattle.layout.specs.Refusals.{answer_number, answer_second}
 use Rattle.srci.proofs.srci_write.Statement.{statement}
 use Rattle.srci.proofs.srci_write.Tie as tie
 
-write-requires : tie.Need-write-requires
+write-requires : tie.Need-write-answer-requires
 write-requires c κs = search rules
 
 tell-requires : tie.Need-tell-requires
 tell-requires c κs = search rules
 
-same_length : tie.Need-same-length
+same_length : tie.Need-shape_of-output
 same_length c = search rules
 
 returns : tie.Need-returns
 returns c =
-    let write = c.before.before.before.before.write.ensures in
+    let write = c.before.before.before.before.write-answer.ensures in
     let told = c.tell.ensures in
     (told.0 ∙ ap answer_number write.0, (write.1, told.1 ∙ ap answer_second write.0))
 
-pub srci-write-spec : {M : Type 1} → statement M
-srci-write-spec = tie.close (tie.spec write-requires tell-requires same_length returns)
+pub srci_write_spec : {M : Type 1} → statement M
+srci_write_spec = tie.close (tie.spec write-requires tell-requires same_length returns)

@@ -6,12 +6,12 @@ use Rattle.utf8.proofs.ClassTable.{class-table}
 use Rattle.utf8.proofs.read_with_table.Statement.{statement}
 use Rattle.utf8.proofs.read_with_table.Tie as tie
 
-read-octets-requires : tie.Need-read-octets-requires
+read-octets-requires : tie.Need-read_octets-requires
 unfolding class_of place_in
 read-octets-requires c κs = class-table _ tt
 
 returns : tie.Need-returns
-returns c = c.read-octets.ensures
+returns c = c.read_octets.ensures
 
-pub read-with-table-spec : {M : Type 1} → statement M
-read-with-table-spec = tie.close (tie.spec read-octets-requires returns)
+pub read_with_table_spec : {M : Type 1} → statement M
+read_with_table_spec = tie.close (tie.spec read-octets-requires returns)

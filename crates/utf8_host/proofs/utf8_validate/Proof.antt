@@ -11,21 +11,21 @@ use Rattle.utf8_host.proofs.utf8_validate.Tie as tie
 validate-requires : tie.Need-validate-requires
 validate-requires c κs = search rules
 
-enum_told : tie.Need-enum-told
+enum_told : tie.Need-enum_told-1
 enum_told c = search rules
 
-enum-known-place : tie.Need-enum-known-place
+enum-known-place : tie.Need-enum_known-place
 enum-known-place c = search rules
 
-returns : tie.Need-returns
+returns : tie.Need-returns-in-WellFormed
 returns c =
-    let e = sym c.before.before.validate.ensures ∙ c.enum_told.given.1 in
+    let e = sym c.before.before.validate.ensures ∙ c.enum_told-1.given.1 in
     (sym (ap number e), sym (ap (λ (u : Utf8). place u c.before.before.before.before.args.at.now) e))
 
-returns-2 : tie.Need-returns-2
+returns-2 : tie.Need-returns-in-IllFormed
 returns-2 c =
-    let e = sym c.before.before.before.validate.ensures ∙ c.before.place.given.1 in
+    let e = sym c.before.before.before.validate.ensures ∙ c.before.place-1.given.1 in
     (sym (ap number e), sym (ap (λ (u : Utf8). place u c.before.before.before.before.before.args.at.now) e))
 
-pub utf8-validate-spec : {M : Type 1} → statement M
-utf8-validate-spec = tie.close (tie.spec validate-requires enum_told enum-known-place returns returns-2)
+pub utf8_validate_spec : {M : Type 1} → statement M
+utf8_validate_spec = tie.close (tie.spec validate-requires enum_told enum-known-place returns returns-2)

@@ -7,41 +7,41 @@ use borrow.Author.Rules.{rules}
 use Rattle.utf8_table.proofs.count.Statement.{statement}
 use Rattle.utf8_table.proofs.count.Tie as tie
 
-abbrev invariant-loop : tie.invariant-loop
+abbrev invariant-loop : tie.invariant-loop-number
 invariant-loop low high start end found₀ number₀ found number = found ≤ number
 
-abbrev decreases-loop : tie.decreases-loop
+abbrev decreases-loop : tie.decreases-loop-number
 decreases-loop low high start end found₀ number₀ found number = high - number
 
-loop-holds : tie.Need-loop-init invariant-loop decreases-loop
+loop-holds : tie.Need-loop-number-init invariant-loop decreases-loop
 loop-holds c = omega arith
 
-bytes-requires : tie.Need-bytes-requires invariant-loop decreases-loop
+bytes-requires : tie.Need-bytes-text-requires invariant-loop decreases-loop
 bytes-requires c κs = search rules
 
-sub-well-formed-up-to : tie.Need-overflow-sub-well-formed-up-to invariant-loop decreases-loop
+sub-well-formed-up-to : tie.Need-slice_bounds-well_formed_up_to-count invariant-loop decreases-loop
 sub-well-formed-up-to c = omega arith
 
-part-well-formed-up-to-start : tie.Need-slice-bounds-well-formed-up-to-start invariant-loop decreases-loop
+part-well-formed-up-to-start : tie.Need-slice_bounds-well_formed_up_to-start invariant-loop decreases-loop
 part-well-formed-up-to-start c = search rules
 
-part-well-formed-up-to-end : tie.Need-slice-bounds-well-formed-up-to-end invariant-loop decreases-loop
+part-well-formed-up-to-end : tie.Need-slice_bounds-well_formed_up_to-end invariant-loop decreases-loop
 part-well-formed-up-to-end c = search rules
 
-well-formed-up-to-requires : tie.Need-well-formed-up-to-requires invariant-loop decreases-loop
+well-formed-up-to-requires : tie.Need-well_formed_up_to-requires invariant-loop decreases-loop
 well-formed-up-to-requires c κs = search rules
 
-add-found : tie.Need-overflow-add-found invariant-loop decreases-loop
+add-found : tie.Need-overflow_add-found invariant-loop decreases-loop
 add-found c = omega arith
 
-add-number : tie.Need-overflow-add-number invariant-loop decreases-loop
+add-number : tie.Need-overflow_add-number invariant-loop decreases-loop
 add-number c = omega arith
 
-loop-less : tie.Need-loop-smaller invariant-loop decreases-loop
+loop-less : tie.Need-loop-number-smaller invariant-loop decreases-loop
 loop-less c = omega arith
 
-loop-again : tie.Need-loop-preserved invariant-loop decreases-loop
-loop-again c = ⊎_elim (λ w. omega arith) (λ w. omega arith) c.if1.branch
+loop-again : tie.Need-loop-number-preserved invariant-loop decreases-loop
+loop-again c = ⊎_elim (λ w. omega arith) (λ w. omega arith) c.if-well_formed_up_to-end.branch-raw
 
 returns : tie.Need-returns invariant-loop decreases-loop
 returns c = search rules

@@ -10,27 +10,27 @@ use Rattle.validate.proofs.Runs.{ascii-between}
 use Rattle.validate.proofs.validate.Statement.{statement}
 use Rattle.validate.proofs.validate.Tie as tie
 
-run-end-requires : tie.Need-run-end-requires
+run-end-requires : tie.Need-run_end-at-requires
 run-end-requires c κs = search rules
 
-returns : tie.Need-returns
+returns : tie.Need-returns-then-at-text
 unfolding utf8_of
-returns c = sym (ended _ _ (omega arith)) ∙ ascii-between _ 0 _ (omega arith) (omega arith) c.before.run-end.ensures.1
+returns c = sym (ended _ _ (omega arith)) ∙ ascii-between _ 0 _ (omega arith) (omega arith) c.before.run_end-at.ensures.1
 
-passed-requires : tie.Need-passed-requires
-passed-requires c κs = (omega arith, λ i h. c.before.run-end.ensures.1 i h (omega arith))
+passed-requires : tie.Need-passed-from-requires
+passed-requires c κs = (omega arith, λ i h. c.before.run_end-at.ensures.1 i h (omega arith))
 
-returns-2 : tie.Need-returns-2
-returns-2 c = sym (ended _ _ (omega arith)) ∙ c.before.passed.ensures.1
+returns-2 : tie.Need-returns-then-from-text
+returns-2 c = sym (ended _ _ (omega arith)) ∙ c.before.passed-from.ensures.1
 
-read-with-table-requires : tie.Need-read-with-table-requires
+read-with-table-requires : tie.Need-read_with_table-requires
 read-with-table-requires c κs = search rules
 
-returns-3 : tie.Need-returns-3
-returns-3 c = c.read-with-table.ensures ∙ c.before.before.passed.ensures.1
+returns-3 : tie.Need-returns
+returns-3 c = c.read_with_table.ensures ∙ c.before.before.passed-from.ensures.1
 
-pub validate-spec : {M : Type 1} → statement M
-validate-spec =
+pub validate_spec : {M : Type 1} → statement M
+validate_spec =
     tie.close
     (tie.spec
     run-end-requires

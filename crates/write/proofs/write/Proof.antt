@@ -18,10 +18,10 @@ use Rattle.write.proofs.write.Statement.{statement}
 use Rattle.write.proofs.write.Tie as tie
 
 -- the bytes that were measured
-measured : (n : tie.After-size) → (
+measured : (n : tie.In-Bytes-2) → (
     let a = n.before.before.before.before.before.before.before.args in
-    (q : List ℕ) × (written_table a.payload.now a.edit.now a.rows.now ≡ good q) × (length q ≡ n.size.given.0.0))
-measured n = sized-bytes _ _ (sym n.before.before.measure.ensures ∙ n.size.given.1)
+    (q : List ℕ) × (written_table a.payload.now a.edit.now a.rows.now ≡ good q) × (length q ≡ n.size-1.given.0.0))
+measured n = sized-bytes _ _ (sym n.before.before.measure.ensures ∙ n.size-1.given.1)
 
 -- they are the rows', written
 written-rows : (payload edit table q : List ℕ) → written_table payload edit table ≡ good q → written payload edit (rows_of table) ≡ good q
@@ -31,16 +31,16 @@ written-rows payload edit table q e = (check-good _ _ _ _ e).1
 measure-requires : tie.Need-measure-requires
 measure-requires c κs = search rules
 
-enum-known-refusal : tie.Need-enum-known-refusal
+enum-known-refusal : tie.Need-enum_known-refusal
 enum-known-refusal c = search rules
 
-enum-known-size : tie.Need-enum-known-size
+enum-known-size : tie.Need-enum_known-size
 enum-known-size c = search rules
 
-cast-if1 : tie.Need-overflow-cast-if1
+cast-if1 : tie.Need-overflow_cast-size
 cast-if1 c = search rules
 
-returns : tie.Need-returns
+returns : tie.Need-returns-then-output-size
 unfolding write_answer write_output
 returns c =
     let n = c.before.before in
@@ -48,7 +48,7 @@ returns c =
     let (q, is, size) = measured n in
     told-no-room (written_table a.payload.now a.edit.now a.rows.now) a.output.now is _ (sym size) (omega arith)
 
-write-srci-requires : tie.Need-write-srci-requires
+write-srci-requires : tie.Need-write_srci-requires
 write-srci-requires c κs =
     let n = c.before.before.before in
     let a = n.before.before.before.before.before.before.before.args in
@@ -56,18 +56,18 @@ write-srci-requires c κs =
     let rows = written-rows a.payload.now a.edit.now a.rows.now q is in
     (ap is_good rows, sym size ∙ ap length (sym (written-good a.payload.now a.edit.now q (rows_of a.rows.now) rows).is))
 
-returns-2 : tie.Need-returns-2
+returns-2 : tie.Need-returns-in-Refused
 unfolding write_answer write_output
 returns-2 c =
     let m = c.before.before.before in
     let a = m.before.before.before.before.before.args in
-    let told = refused _ a.output.now (sized-refused _ _ (sym m.measure.ensures ∙ c.before.refusal.given.1)) in
+    let told = refused _ a.output.now (sized-refused _ _ (sym m.measure.ensures ∙ c.before.refusal-1.given.1)) in
     (sym told.0, sym told.1)
 
-same_length : tie.Need-same-length
+same_length : tie.Need-shape_of-output
 same_length c = search rules
 
-returns-3 : tie.Need-returns-3
+returns-3 : tie.Need-returns-else-output-size
 unfolding write_answer write_output
 returns-3 c =
     let f = c.before.before in
@@ -77,7 +77,7 @@ returns-3 c =
     let (answered, left) = told-room (written_table a.payload.now a.edit.now a.rows.now) a.output.now is _ (sym size) (omega arith) in
     let rows = written-rows a.payload.now a.edit.now a.rows.now q is in
     let bytes = (written-good a.payload.now a.edit.now q (rows_of a.rows.now) rows).is in
-    (answered, f.write-srci.ensures ∙ ap (λ (l : List ℕ). sets a.output.now 0 l) bytes ∙ left)
+    (answered, f.write_srci.ensures ∙ ap (λ (l : List ℕ). sets a.output.now 0 l) bytes ∙ left)
 
 pub write_spec : {M : Type 1} → statement M
 write_spec =

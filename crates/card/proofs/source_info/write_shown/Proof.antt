@@ -11,34 +11,34 @@ use Rattle.card.proofs.source_info.write_shown.Tie as tie
 summarize-requires : tie.Need-summarize-requires
 summarize-requires c κs = search rules
 
-enum-known-summary : tie.Need-enum-known-summary
+enum-known-summary : tie.Need-enum_known-summary
 enum-known-summary c = search rules
 
-write-line-requires : tie.Need-write-line-requires
+write-line-requires : tie.Need-write_line-requires
 write-line-requires c κs = search rules
 
-enum_told : tie.Need-enum-told
+enum_told : tie.Need-enum_told-1
 enum_told c = search rules
 
-same_length : tie.Need-same-length
+same_length : tie.Need-shape_of-output
 same_length c = search rules
 
-returns : tie.Need-returns
+returns : tie.Need-returns-in-Known
 unfolding lines
 returns c =
     let w = c.before.before in
     let s = w.before.before.before in
     let told = s.before.before in
-    rw (← told.summarize.ensures, s.summary.given.1, append-nil) w.write-line.ensures
+    rw (← told.summarize.ensures, s.summary-1.given.1, append-nil) w.write_line.ensures
 
-returns-2 : tie.Need-returns-2
+returns-2 : tie.Need-returns-in-Unknown
 unfolding lines
 returns-2 c =
     let told = c.before.before in
-    rw (← told.summarize.ensures, c.enum_told.given.1) (omega arith, (omega arith, refl))
+    rw (← told.summarize.ensures, c.enum_told-1.given.1) (omega arith, (omega arith, refl))
 
-pub write-shown-spec : {M : Type 1} → statement M
-write-shown-spec =
+pub write_shown_spec : {M : Type 1} → statement M
+write_shown_spec =
     tie.close
     (tie.spec
     summarize-requires

@@ -10,26 +10,23 @@ use Rattle.display.proofs.LineLaws.{records-stored, records-length}
 use Rattle.display.proofs.line.write_records.Statement.{statement}
 use Rattle.display.proofs.line.write_records.Tie as tie
 
-slice-aggregate-write-bytes : tie.Need-slice-aggregate-write-bytes
-slice-aggregate-write-bytes c = search rules
-
-write-bytes-requires : tie.Need-write-bytes-requires
+write-bytes-requires : tie.Need-write_bytes-requires
 write-bytes-requires c κs = search rules
 
-add-write-number : tie.Need-overflow-add-write-number
+add-write-number : tie.Need-overflow_add-at
 add-write-number c = search rules
 
-write-number-requires : tie.Need-write-number-requires
+write-number-requires : tie.Need-write_number-next-requires
 write-number-requires c κs = search rules
 
-write-number-requires-2 : tie.Need-write-number-requires-2
+write-number-requires-2 : tie.Need-write_number-requires
 write-number-requires-2 c κs = search rules
 
-same_length : tie.Need-same-length
+same_length : tie.Need-shape_of-output
 same_length c = search rules
 
 -- what is stored first
-started : (c : tie.After-write-bytes) → (let a = c.before.before.before.before.before.before.args in c.write_bytes.new.0 ≡ sets a.output.now a.at (ascii "//   ["))
+started : (c : tie.After-write_bytes) → (let a = c.before.before.before.before.before.before.args in c.write_bytes.new.0 ≡ sets a.output.now a.at (ascii "//   ["))
 unfolding ascii
 started c = c.write_bytes.ensures
 
@@ -45,17 +42,16 @@ returns c =
     let sum = records-length a.place a.count name text in (
       omega (arith, sum, length-append (decimal a.place) name, length-append (decimal a.count) text),
       (
-        omega (arith, entry.requires.1, first.write-number.ensures.1.0, second.write-number2.ensures.1.0),
-        rw (second.write-number2.ensures.1.1, first.write-number.ensures.1.1, started start)
-            (records-stored a.place a.count name text a.output.now a.at _ _ (omega arith) first.write-number.ensures.0),
+        omega (arith, entry.requires.1, first.write_number-next.ensures.1.0, second.write_number.ensures.1.0),
+        rw (second.write_number.ensures.1.1, first.write_number-next.ensures.1.1, started start)
+            (records-stored a.place a.count name text a.output.now a.at _ _ (omega arith) first.write_number-next.ensures.0),
       ),
     )
 
-pub write-records-spec : {M : Type 1} → statement M
-write-records-spec =
+pub write_records_spec : {M : Type 1} → statement M
+write_records_spec =
     tie.close
     (tie.spec
-    slice-aggregate-write-bytes
     write-bytes-requires
     add-write-number
     write-number-requires

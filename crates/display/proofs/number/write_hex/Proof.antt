@@ -20,13 +20,13 @@ digit-requires-3 c κs = search rules
 digit-requires-4 : tie.Need-digit-requires-4
 digit-requires-4 c κs = search rules
 
-slice-aggregate-write-bytes : tie.Need-slice-aggregate-write-bytes
+slice-aggregate-write-bytes : tie.Need-slice_bounds-write_bytes-end
 slice-aggregate-write-bytes c = search rules
 
-write-bytes-requires : tie.Need-write-bytes-requires
+write-bytes-requires : tie.Need-write_bytes-requires
 write-bytes-requires c κs = search rules
 
-same_length : tie.Need-same-length
+same_length : tie.Need-shape_of-output
 same_length c = search rules
 
 returns : tie.Need-returns
@@ -36,10 +36,10 @@ returns c =
     let a = d.before.before.before.before.before.args in
     let first : a.n / 4096 ≡ a.n / 16 / 16 / 16 % 16 = omega arith in
     let second : a.n / 256 % 16 ≡ a.n / 16 / 16 % 16 = omega arith in
-    rw (c.before.before.write_bytes.ensures, d.digit4.ensures, d.before.digit3.ensures, d.before.before.digit2.ensures, d.before.before.before.digit.ensures, first, second)
+    rw (c.before.before.write_bytes.ensures, d.digit-4.ensures, d.before.digit-3.ensures, d.before.before.digit-2.ensures, d.before.before.before.digit.ensures, first, second)
 
-pub write-hex-spec : {M : Type 1} → statement M
-write-hex-spec =
+pub write_hex_spec : {M : Type 1} → statement M
+write_hex_spec =
     tie.close
     (tie.spec
     digit-requires

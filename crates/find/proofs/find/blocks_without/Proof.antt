@@ -9,42 +9,42 @@ use Rattle.find.proofs.FindLaws.{another, until-run}
 use Rattle.find.proofs.find.blocks_without.Statement.{statement}
 use Rattle.find.proofs.find.blocks_without.Tie as tie
 
-abbrev invariant-loop : tie.invariant-loop
+abbrev invariant-loop : tie.invariant-loop-i
 invariant-loop bytes byte at i₀ i = (i ≤ length bytes) × (i + until (is_any byte byte byte) (drop i bytes) ≡ at + until (is_any byte byte byte) (drop at bytes))
 
-abbrev decreases-loop : tie.decreases-loop
+abbrev decreases-loop : tie.decreases-loop-i
 decreases-loop bytes byte at i₀ i = length bytes - i
 
-loop-holds : tie.Need-loop-init invariant-loop decreases-loop
+loop-holds : tie.Need-loop-i-init invariant-loop decreases-loop
 loop-holds c = (omega arith, refl)
 
-sub-loop : tie.Need-overflow-sub-loop invariant-loop decreases-loop
+sub-loop : tie.Need-overflow_sub-bytes invariant-loop decreases-loop
 sub-loop c = omega arith
 
-has-byte-requires : tie.Need-has-byte-requires invariant-loop decreases-loop
+has-byte-requires : tie.Need-has_byte-requires invariant-loop decreases-loop
 has-byte-requires c κs = omega arith
 
-returns : tie.Need-returns invariant-loop decreases-loop
-returns c = (omega arith, c.before.before.before.loop.invariant.1)
+returns : tie.Need-returns-then-has_byte invariant-loop decreases-loop
+returns c = (omega arith, c.before.before.before.loop-i.invariant.1)
 
-add-i : tie.Need-overflow-add-i invariant-loop decreases-loop
+add-i : tie.Need-overflow_add-i invariant-loop decreases-loop
 add-i c = omega arith
 
-loop-less : tie.Need-loop-smaller invariant-loop decreases-loop
+loop-less : tie.Need-loop-i-smaller invariant-loop decreases-loop
 loop-less c = omega arith
 
-loop-again : tie.Need-loop-preserved invariant-loop decreases-loop
+loop-again : tie.Need-loop-i-preserved invariant-loop decreases-loop
 loop-again c = (
   omega arith,
-  until-run _ _ _ 16 (omega arith) (λ k h. another _ _ (c.before.has-byte.ensures c.if1.false k h)) ∙
-      c.before.before.before.loop.invariant.1,
+  until-run _ _ _ 16 (omega arith) (λ k h. another _ _ (c.before.has_byte.ensures c.if-has_byte.false k h)) ∙
+      c.before.before.before.loop-i.invariant.1,
 )
 
-returns-2 : tie.Need-returns-2 invariant-loop decreases-loop
-returns-2 c = (omega arith, c.before.loop.invariant.1)
+returns-2 : tie.Need-returns invariant-loop decreases-loop
+returns-2 c = (omega arith, c.before.loop-i.invariant.1)
 
-pub blocks-without-spec : {M : Type 1} → statement M
-blocks-without-spec =
+pub blocks_without_spec : {M : Type 1} → statement M
+blocks_without_spec =
     tie.close
     (tie.spec
     invariant-loop

@@ -6,11 +6,11 @@ use Rattle.find.proofs.NulLaws.{nul-found}
 use Rattle.find.proofs.nul.find_nul.Statement.{statement}
 use Rattle.find.proofs.nul.find_nul.Tie as tie
 
-find-from-requires : tie.Need-find-from-requires
+find-from-requires : tie.Need-find_from-requires
 find-from-requires c κs = search rules
 
 returns : tie.Need-returns
 returns c = omega (arith, nul-found c.before.before.args.bytes.now)
 
-pub find-nul-spec : {M : Type 1} → statement M
-find-nul-spec = tie.close (tie.spec find-from-requires returns)
+pub find_nul_spec : {M : Type 1} → statement M
+find_nul_spec = tie.close (tie.spec find-from-requires returns)

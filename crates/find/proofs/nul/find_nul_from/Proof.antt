@@ -8,19 +8,20 @@ use Rattle.find.proofs.NulLaws.{until-nul, until-past, nul-found}
 use Rattle.find.proofs.nul.find_nul_from.Statement.{statement}
 use Rattle.find.proofs.nul.find_nul_from.Tie as tie
 
-returns : tie.Need-returns
+returns : tie.Need-returns-then-bytes-at
 returns c = let a = c.before.before.args in sym (until-past a.bytes.now a.at (omega arith))
 
-returns-2 : tie.Need-returns-2
+returns-2 : tie.Need-returns-then-bytes-at-eq0
 returns-2 c = let a = c.before.before.before.before.args in sym (until-nul a.bytes.now a.at (omega arith))
 
-returns-3 : tie.Need-returns-3
+returns-3 : tie.Need-returns
 returns-3 c = let a = c.before.before.before.before.before.args in omega (arith, nul-found (drop a.at a.bytes.now))
 
-pub find-nul-from-spec : {M : Type 1} → statement M
-find-nul-from-spec =
+pub find_nul_from_spec : {M : Type 1} → statement M
+find_nul_from_spec =
     tie.close
     (tie.spec
+
     returns
     (λ c. search rules)
     returns-2

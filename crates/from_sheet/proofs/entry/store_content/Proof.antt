@@ -16,26 +16,26 @@ use Rattle.sheet.specs.Fields.{unescape}
 use Rattle.from_sheet.proofs.entry.store_content.Statement.{statement}
 use Rattle.from_sheet.proofs.entry.store_content.Tie as tie
 
-add-text : tie.Need-overflow-add-text
+add-text : tie.Need-overflow_add-text
 add-text c = search rules
 
-write-unescaped-requires : tie.Need-write-unescaped-requires
+write-unescaped-requires : tie.Need-write_unescaped-end-requires
 write-unescaped-requires c κs =
     let start = c.before.before.before in
     let t = unescape start.args.field.now in
     omega (arith, length-content_entry t, le-aligned (12 + wire_size (length t)), start.requires.0)
 
-cast-close-content : tie.Need-overflow-cast-close-content
+cast-close-content : tie.Need-overflow_cast-end
 cast-close-content c =
     let w = c.before.before.before in
     let start = w.before.before.before.before in
     let t = unescape start.args.field.now in
-    omega (arith, w.write-unescaped.ensures.0, length-content_entry t, le-aligned (12 + wire_size (length t)), start.requires.1)
+    omega (arith, w.write_unescaped-end.ensures.0, length-content_entry t, le-aligned (12 + wire_size (length t)), start.requires.1)
 
-close-content-requires : tie.Need-close-content-requires
+close-content-requires : tie.Need-close_content-requires
 close-content-requires c κs = search rules
 
-same_length : tie.Need-same-length
+same_length : tie.Need-shape_of-output
 same_length c = search rules
 
 returns : tie.Need-returns
@@ -44,13 +44,13 @@ returns c =
     let w = closed.before.before.before.before in
     let a = w.before.before.before.before.args in
     let t = unescape a.field.now in
-    let end = w.write-unescaped.ensures.0 in (
-      closed.close-content.ensures.0 ∙ ap (λ (n : ℕ). a.at + n) (entry-size 12 [] refl t a.at end ∙ ap length (sym (content-is t))),
-      closed.close-content.ensures.1 ∙ ap (λ (l : List ℕ). entry_framed l a.at 12 w.write-unescaped.result) w.write-unescaped.ensures.1 ∙ content-closed a.output.now a.at t end,
+    let end = w.write_unescaped-end.ensures.0 in (
+      closed.close_content.ensures.0 ∙ ap (λ (n : ℕ). a.at + n) (entry-size 12 [] refl t a.at end ∙ ap length (sym (content-is t))),
+      closed.close_content.ensures.1 ∙ ap (λ (l : List ℕ). entry_framed l a.at 12 w.write_unescaped-end.result) w.write_unescaped-end.ensures.1 ∙ content-closed a.output.now a.at t end,
     )
 
-pub store-content-spec : {M : Type 1} → statement M
-store-content-spec =
+pub store_content_spec : {M : Type 1} → statement M
+store_content_spec =
     tie.close
     (tie.spec
     add-text

@@ -19,26 +19,26 @@ use Rattle.sheet.specs.Fields.{unescape}
 use Rattle.from_sheet.proofs.entry.store_name.Statement.{statement}
 use Rattle.from_sheet.proofs.entry.store_name.Tie as tie
 
-add-text : tie.Need-overflow-add-text
+add-text : tie.Need-overflow_add-text
 add-text c = search rules
 
-write-unescaped-requires : tie.Need-write-unescaped-requires
+write-unescaped-requires : tie.Need-write_unescaped-end-requires
 write-unescaped-requires c κs =
     let start = c.before.before.before in
     let n = name (unescape start.args.field.now) start.args.content-size in
     omega (arith, length-name_entry n, le-aligned (16 + wire_size (length n.text)), start.requires.0)
 
-cast-close-name : tie.Need-overflow-cast-close-name
+cast-close-name : tie.Need-overflow_cast-end
 cast-close-name c =
     let w = c.before.before.before in
     let start = w.before.before.before.before in
     let n = name (unescape start.args.field.now) start.args.content-size in
-    omega (arith, w.write-unescaped.ensures.0, length-name_entry n, le-aligned (16 + wire_size (length n.text)), start.requires.1)
+    omega (arith, w.write_unescaped-end.ensures.0, length-name_entry n, le-aligned (16 + wire_size (length n.text)), start.requires.1)
 
-close-name-requires : tie.Need-close-name-requires
+close-name-requires : tie.Need-close_name-requires
 close-name-requires c κs = search rules
 
-same_length : tie.Need-same-length
+same_length : tie.Need-shape_of-output
 same_length c = search rules
 
 returns : tie.Need-returns
@@ -48,13 +48,13 @@ returns c =
     let a = w.before.before.before.before.args in
     let n = name (unescape a.field.now) a.content-size in
     let size = u32 a.content-size in
-    let end = w.write-unescaped.ensures.0 in (
-      closed.close-name.ensures.0 ∙ ap (λ (m : ℕ). a.at + m) (entry-size 16 size (name-header a.content-size) n.text a.at end ∙ ap length (sym (name-is n))),
-      closed.close-name.ensures.1 ∙ ap (λ (l : List ℕ). entry_framed (sets l (a.at + 12) size) a.at 16 w.write-unescaped.result) w.write-unescaped.ensures.1 ∙ name-closed a.output.now a.at n end,
+    let end = w.write_unescaped-end.ensures.0 in (
+      closed.close_name.ensures.0 ∙ ap (λ (m : ℕ). a.at + m) (entry-size 16 size (name-header a.content-size) n.text a.at end ∙ ap length (sym (name-is n))),
+      closed.close_name.ensures.1 ∙ ap (λ (l : List ℕ). entry_framed (sets l (a.at + 12) size) a.at 16 w.write_unescaped-end.result) w.write_unescaped-end.ensures.1 ∙ name-closed a.output.now a.at n end,
     )
 
-pub store-name-spec : {M : Type 1} → statement M
-store-name-spec =
+pub store_name_spec : {M : Type 1} → statement M
+store_name_spec =
     tie.close
     (tie.spec
     add-text

@@ -15,29 +15,29 @@ use Rattle.sheet.specs.Fields.{unescape}
 use Rattle.from_sheet.proofs.entry.store_pair.Statement.{statement}
 use Rattle.from_sheet.proofs.entry.store_pair.Tie as tie
 
-store-text-requires : tie.Need-store-text-requires
+store-text-requires : tie.Need-store_text-next-requires
 store-text-requires c κs =
     let start = c.before.before.before.before in
     let p = pair (unescape start.args.key.now) (unescape start.args.value.now) in
     (omega (arith, length-pair_entry p, start.requires.0), omega (arith, length-pair_entry p, start.requires.1))
 
-cast-store-text : tie.Need-overflow-cast-store-text
+cast-store-text : tie.Need-overflow_cast-next
 cast-store-text c =
     let w = c.before.before.before in
     let start = w.before.before.before.before.before in
     let p = pair (unescape start.args.key.now) (unescape start.args.value.now) in
-    omega (arith, w.store-text.ensures.0, length-pair_entry p, start.requires.1)
+    omega (arith, w.store_text-next.ensures.0, length-pair_entry p, start.requires.1)
 
-store-text-requires-2 : tie.Need-store-text-requires-2
+store-text-requires-2 : tie.Need-store_text-requires
 store-text-requires-2 c κs =
     let w = c.before.before.before in
     let start = w.before.before.before.before.before in
     let p = pair (unescape start.args.key.now) (unescape start.args.value.now) in (
-      omega (arith, w.store-text.ensures.0, w.store-text.auto.0, length-pair_entry p, start.requires.0),
-      omega (arith, w.store-text.ensures.0, length-pair_entry p, start.requires.1),
+      omega (arith, w.store_text-next.ensures.0, w.store_text-next.auto.0, length-pair_entry p, start.requires.0),
+      omega (arith, w.store_text-next.ensures.0, length-pair_entry p, start.requires.1),
     )
 
-same_length : tie.Need-same-length
+same_length : tie.Need-shape_of-output
 same_length c = search rules
 
 returns : tie.Need-returns
@@ -48,13 +48,13 @@ returns c =
     let a = w.before.before.before.before.before.args in
     let key = unescape a.key.now in
     let value = unescape a.value.now in
-    let next = w.store-text.ensures.0 in (
-      omega (arith, second.store-text2.ensures.0, next, length-pair_entry (pair key value)),
-      second.store-text2.ensures.1 ∙ ap (λ (l : List ℕ). sets l w.store-text.result (terminate value)) w.store-text.ensures.1 ∙
-          sets-joined (terminate key) (terminate value) a.output.now a.at w.store-text.result (omega (arith, next, length-append key (0 ∷ []))),
+    let next = w.store_text-next.ensures.0 in (
+      omega (arith, second.store_text.ensures.0, next, length-pair_entry (pair key value)),
+      second.store_text.ensures.1 ∙ ap (λ (l : List ℕ). sets l w.store_text-next.result (terminate value)) w.store_text-next.ensures.1 ∙
+          sets-joined (terminate key) (terminate value) a.output.now a.at w.store_text-next.result (omega (arith, next, length-append key (0 ∷ []))),
     )
 
-pub store-pair-spec : {M : Type 1} → statement M
-store-pair-spec =
+pub store_pair_spec : {M : Type 1} → statement M
+store_pair_spec =
     tie.close
     (tie.spec store-text-requires cast-store-text store-text-requires-2 same_length returns)

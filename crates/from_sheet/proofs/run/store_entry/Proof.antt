@@ -42,44 +42,44 @@ content-is :
 content-is c =
     let told = c.before.before in
     let a = told.before.before.before.before.args in
-    content-bytes a.tag (fields_of a.line.now) told.enum_told.given.1 ∙ ap (λ (f : List ℕ). content_entry (unescape f)) (sym c.field.ensures)
+    content-bytes a.tag (fields_of a.line.now) told.enum_told-1.given.1 ∙ ap (λ (f : List ℕ). content_entry (unescape f)) (sym c.field.ensures)
 
 name-is :
     (c : tie.After-number) →
     (let a = c.before.before.before.before.before.before.before.args in
-    entry_bytes a.tag (said_by a.tag (fields_of a.line.now)) ≡ name_entry (name (unescape c.before.field2.result.now) c.number.result))
+    entry_bytes a.tag (said_by a.tag (fields_of a.line.now)) ≡ name_entry (name (unescape c.before.field-in-Name.result.now) c.number.result))
 name-is c =
     let told = c.before.before.before in
     let a = told.before.before.before.before.args in
-    name-bytes a.tag (fields_of a.line.now) told.enum-told2.given.1 ∙
-    ap₂ (λ (f : List ℕ) (n : ℕ). name_entry (name (unescape f) n)) (sym c.before.field2.ensures) (sym c.number.ensures)
+    name-bytes a.tag (fields_of a.line.now) told.enum_told-in-Name-1.given.1 ∙
+    ap₂ (λ (f : List ℕ) (n : ℕ). name_entry (name (unescape f) n)) (sym c.before.field-in-Name.ensures) (sym c.number.ensures)
 
 pair_is :
-    (c : tie.After-field4) →
+    (c : tie.After-field-in-Pair-2) →
     (let a = c.before.before.before.before.before.before.before.args in
-    entry_bytes a.tag (said_by a.tag (fields_of a.line.now)) ≡ pair_entry (pair (unescape c.before.field3.result.now) (unescape c.field4.result.now)))
+    entry_bytes a.tag (said_by a.tag (fields_of a.line.now)) ≡ pair_entry (pair (unescape c.before.field-in-Pair.result.now) (unescape c.field-in-Pair-2.result.now)))
 pair_is c =
     let told = c.before.before.before in
     let a = told.before.before.before.before.args in
-    pair-bytes a.tag (fields_of a.line.now) told.enum-told3.given.1 ∙
-    ap₂ (λ (f g : List ℕ). pair_entry (pair (unescape f) (unescape g))) (sym c.before.field3.ensures) (sym c.field4.ensures)
+    pair-bytes a.tag (fields_of a.line.now) told.enum_told-in-Pair-1.given.1 ∙
+    ap₂ (λ (f g : List ℕ). pair_entry (pair (unescape f) (unescape g))) (sym c.before.field-in-Pair.ensures) (sym c.field-in-Pair-2.ensures)
 
-enum_told : tie.Need-enum-told
+enum_told : tie.Need-enum_told-1
 enum_told c = search rules
 
 field-requires : tie.Need-field-requires
 field-requires c κs = search rules
 
-store-content-requires : tie.Need-store-content-requires
+store-content-requires : tie.Need-store_content-requires
 store-content-requires c κs =
     let start = c.before.before.before.before.before.before in
     let size = ap length (content-is c) in
     (omega (arith, size, start.requires.1.0), omega (arith, size, start.requires.1.1))
 
-enum-told-2 : tie.Need-enum-told-2
+enum-told-2 : tie.Need-enum_told-in-Name
 enum-told-2 c = search rules
 
-field-requires-2 : tie.Need-field-requires-2
+field-requires-2 : tie.Need-field-requires-in-Name
 field-requires-2 c κs = search rules
 
 number-requires : tie.Need-number-requires
@@ -87,91 +87,91 @@ number-requires c κs =
     let told = c.before.before in
     let start = told.before.before.before.before in
     let fs = fields_of start.args.line.now in
-    number-made tag.Name fs (ap (λ (t : Tag). is_made t fs) (sym told.enum-told2.given.1) ∙ start.requires.0) 0 (omega arith)
+    number-made tag.Name fs (ap (λ (t : Tag). is_made t fs) (sym told.enum_told-in-Name-1.given.1) ∙ start.requires.0) 0 (omega arith)
 
-store-name-requires : tie.Need-store-name-requires
+store-name-requires : tie.Need-store_name-requires
 store-name-requires c κs =
     let start = c.before.before.before.before.before.before.before in
     let size = ap length (name-is c) in
     (omega (arith, size, start.requires.1.0), omega (arith, size, start.requires.1.1))
 
-enum-told-3 : tie.Need-enum-told-3
+enum-told-3 : tie.Need-enum_told-in-Pair
 enum-told-3 c = search rules
 
-field-requires-3 : tie.Need-field-requires-3
+field-requires-3 : tie.Need-field-requires-in-Pair
 field-requires-3 c κs = search rules
 
-field-requires-4 : tie.Need-field-requires-4
+field-requires-4 : tie.Need-field-requires-in-Pair-2
 field-requires-4 c κs = search rules
 
-store-pair-requires : tie.Need-store-pair-requires
+store-pair-requires : tie.Need-store_pair-requires
 store-pair-requires c κs =
     let start = c.before.before.before.before.before.before.before in
     let size = ap length (pair_is c) in
     (omega (arith, size, start.requires.1.0), omega (arith, size, start.requires.1.1))
 
-enum-told-4 : tie.Need-enum-told-4
+enum-told-4 : tie.Need-enum_told-in-PlainContents
 enum-told-4 c = search rules
 
-enum-told-5 : tie.Need-enum-told-5
+enum-told-5 : tie.Need-enum_told-in-PackedContents
 enum-told-5 c = search rules
 
-enum-told-6 : tie.Need-enum-told-6
+enum-told-6 : tie.Need-enum_told-in-Names
 enum-told-6 c = search rules
 
-enum-told-7 : tie.Need-enum-told-7
+enum-told-7 : tie.Need-enum_told-in-Arguments
 enum-told-7 c = search rules
 
-enum-told-8 : tie.Need-enum-told-8
+enum-told-8 : tie.Need-enum_told-in-Unknown
 enum-told-8 c = search rules
 
-enum-told-9 : tie.Need-enum-told-9
+enum-told-9 : tie.Need-enum_told-in-None
 enum-told-9 c = search rules
 
-same_length : tie.Need-same-length
+same_length : tie.Need-shape_of-output-in-Content
 same_length c = search rules
 
-returns : tie.Need-returns
-returns c = let w = c.before.before in rw (content-is w.before) w.store-content.ensures
+returns : tie.Need-returns-in-Content
+returns c = let w = c.before.before in rw (content-is w.before) w.store_content.ensures
 
-same-length-2 : tie.Need-same-length-2
+same-length-2 : tie.Need-shape_of-output-in-Name
 same-length-2 c = search rules
 
-returns-2 : tie.Need-returns-2
-returns-2 c = let w = c.before.before in rw (name-is w.before) w.store-name.ensures
+returns-2 : tie.Need-returns-in-Name
+returns-2 c = let w = c.before.before in rw (name-is w.before) w.store_name.ensures
 
-same-length-3 : tie.Need-same-length-3
+same-length-3 : tie.Need-shape_of-output-in-Pair
 same-length-3 c = search rules
 
-returns-3 : tie.Need-returns-3
+returns-3 : tie.Need-returns-in-Pair
 returns-3 c = let w = c.before.before in rw (pair_is w.before) w.store_pair.ensures
 
-returns-4 : tie.Need-returns-4
+returns-4 : tie.Need-returns-in-PlainContents
 unfolding entry_bytes
-returns-4 c = rw c.enum-told4.given.1 (omega arith, refl)
+returns-4 c = rw c.enum_told-in-PlainContents-1.given.1 (omega arith, refl)
 
-returns-5 : tie.Need-returns-5
+returns-5 : tie.Need-returns-in-PackedContents
 unfolding entry_bytes
-returns-5 c = rw c.enum-told5.given.1 (omega arith, refl)
+returns-5 c = rw c.enum_told-in-PackedContents-1.given.1 (omega arith, refl)
 
-returns-6 : tie.Need-returns-6
+returns-6 : tie.Need-returns-in-Names
 unfolding entry_bytes
-returns-6 c = rw c.enum-told6.given.1 (omega arith, refl)
+returns-6 c = rw c.enum_told-in-Names-1.given.1 (omega arith, refl)
 
-returns-7 : tie.Need-returns-7
+returns-7 : tie.Need-returns-in-Arguments
 unfolding entry_bytes
-returns-7 c = rw c.enum-told7.given.1 (omega arith, refl)
+returns-7 c = rw c.enum_told-in-Arguments-1.given.1 (omega arith, refl)
 
-returns-8 : tie.Need-returns-8
+returns-8 : tie.Need-returns-in-Unknown
 unfolding entry_bytes
-returns-8 c = rw c.enum-told8.given.1 (omega arith, refl)
+returns-8 c = rw c.enum_told-in-Unknown-1.given.1 (omega arith, refl)
 
-returns-9 : tie.Need-returns-9
+returns-9 : tie.Need-returns-in-None
 unfolding entry_bytes
-returns-9 c = rw c.enum-told9.given.1 (omega arith, refl)
+returns-9 c = rw c.enum_told-in-None-1.given.1 (omega arith, refl)
 
-pub store-entry-spec : {M : Type 1} → statement M
-store-entry-spec =
+pub store_entry_spec : {M : Type 1} → statement M
+store_entry_spec =
     tie.close
     (tie.spec
     enum_told

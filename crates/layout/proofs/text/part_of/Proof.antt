@@ -9,52 +9,52 @@ use lib.Seq.{take_all, take-nil}
 use Rattle.layout.proofs.text.part_of.Statement.{statement}
 use Rattle.layout.proofs.text.part_of.Tie as tie
 
-slice-aggregate-result : tie.Need-slice-aggregate-result
+slice-aggregate-result : tie.Need-slice_bounds-result-end
 slice-aggregate-result c = search rules
 
-returns : tie.Need-returns
+returns : tie.Need-returns-then-bytes-start
 returns c =
     let a = c.before.before.args in
-    sym (ap (take a.count) (drop_of_length-le a.bytes.now c.before.if1.true) ∙ take-nil a.count)
+    sym (ap (take a.count) (drop_of_length-le a.bytes.now c.before.if-bytes-start.true) ∙ take-nil a.count)
 
-sub-if2 : tie.Need-overflow-sub-if2
+sub-if2 : tie.Need-overflow_sub-bytes
 sub-if2 c = search rules
 
-sub-result : tie.Need-overflow-sub-result
+sub-result : tie.Need-slice_bounds-result-count
 sub-result c = search rules
 
-part-result-start : tie.Need-slice-bounds-result-start
+part-result-start : tie.Need-slice_bounds-result-start
 part-result-start c = search rules
 
-part-result-end : tie.Need-slice-bounds-result-end
+part-result-end : tie.Need-slice_bounds-result-end-then-bytes-start-2
 part-result-end c = search rules
 
-returns-2 : tie.Need-returns-2
+returns-2 : tie.Need-returns-then-bytes-start-2
 returns-2 c =
     let a = c.before.before.before.args in
     let d = drop a.start a.bytes.now in
     let l = length-drop a.start a.bytes.now in
     take_all (length a.bytes.now - a.start) d (omega arith) ∙ sym (take_all a.count d (omega arith))
 
-add-end : tie.Need-overflow-add-end
+add-end : tie.Need-overflow_add-end
 add-end c = search rules
 
-sub-result-2 : tie.Need-overflow-sub-result-2
+sub-result-2 : tie.Need-slice_bounds-result-count-2
 sub-result-2 c = search rules
 
-part-result-start-2 : tie.Need-slice-bounds-result-start-2
+part-result-start-2 : tie.Need-slice_bounds-result-start-2
 part-result-start-2 c = search rules
 
-part-result-end-2 : tie.Need-slice-bounds-result-end-2
+part-result-end-2 : tie.Need-slice_bounds-result-end-2
 part-result-end-2 c = search rules
 
-returns-3 : tie.Need-returns-3
+returns-3 : tie.Need-returns
 returns-3 c =
     let a = c.before.before.before.args in
     ap (λ (k : ℕ). take k (drop a.start a.bytes.now)) (add-sub_cancel_left a.start a.count)
 
-pub part-of-spec : {M : Type 1} → statement M
-part-of-spec =
+pub part_of_spec : {M : Type 1} → statement M
+part_of_spec =
     tie.close
     (tie.spec
     slice-aggregate-result

@@ -8,18 +8,18 @@ use Rattle.layout.specs.TextCheck.{check_whole, check_text, verdict}
 use Rattle.layout.proofs.text_check.check_text.Statement.{statement}
 use Rattle.layout.proofs.text_check.check_text.Tie as tie
 
-cast-part-of : tie.Need-overflow-cast-part-of
+cast-part-of : tie.Need-overflow_cast-text
 cast-part-of c = search rules
 
-part-of-requires : tie.Need-part-of-requires
+part-of-requires : tie.Need-part_of-requires
 part-of-requires c κs = search rules
 
-check-whole-requires : tie.Need-check-whole-requires
+check-whole-requires : tie.Need-check_whole-requires
 check-whole-requires c κs = search rules
 
 returns : tie.Need-returns
 unfolding check_text
-returns c = c.check-whole.ensures ∙ ap (λ (text : List ℕ). verdict (check_whole text)) c.before.part_of.ensures
+returns c = c.check_whole.ensures ∙ ap (λ (text : List ℕ). verdict (check_whole text)) c.before.part_of.ensures
 
-pub check-text-spec : {M : Type 1} → statement M
-check-text-spec = tie.close (tie.spec cast-part-of part-of-requires check-whole-requires returns)
+pub check_text_spec : {M : Type 1} → statement M
+check_text_spec = tie.close (tie.spec cast-part-of part-of-requires check-whole-requires returns)

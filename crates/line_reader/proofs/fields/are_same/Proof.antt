@@ -10,50 +10,50 @@ use Rattle.line_reader.proofs.FieldLaws.{other-lengths, same_step, same_stop, sa
 use Rattle.line_reader.proofs.fields.are_same.Statement.{statement}
 use Rattle.line_reader.proofs.fields.are_same.Tie as tie
 
-abbrev invariant-loop : tie.invariant-loop
+abbrev invariant-loop : tie.invariant-loop-i
 invariant-loop bytes word i₀ i = (i ≤ length bytes) × (same (drop i bytes) (drop i word) ≡ same bytes word)
 
-abbrev decreases-loop : tie.decreases-loop
+abbrev decreases-loop : tie.decreases-loop-i
 decreases-loop bytes word i₀ i = length bytes - i
 
-returns : tie.Need-returns invariant-loop decreases-loop
-returns c = sym (other-lengths _ _ c.if1.true)
+returns : tie.Need-returns-then-bytes-word invariant-loop decreases-loop
+returns c = sym (other-lengths _ _ c.if-bytes-word.true)
 
-in-word : (c : tie.In-loop invariant-loop decreases-loop) → c.before.loop.i < length c.before.before.before.args.word.now
+in-word : (c : tie.In-loop-i invariant-loop decreases-loop) → c.before.loop-i.i < length c.before.before.before.args.word.now
 in-word c = omega arith
 
-loop-holds : tie.Need-loop-init invariant-loop decreases-loop
+loop-holds : tie.Need-loop-i-init invariant-loop decreases-loop
 loop-holds c = (search rules, refl)
 
-shared-slice-read-if2 : tie.Need-shared-slice-read-if2 invariant-loop decreases-loop
+shared-slice-read-if2 : tie.Need-bounds-bytes-i invariant-loop decreases-loop
 shared-slice-read-if2 c = search rules
 
-shared-slice-read-if2-2 : tie.Need-shared-slice-read-if2-2 invariant-loop decreases-loop
+shared-slice-read-if2-2 : tie.Need-bounds-word-i invariant-loop decreases-loop
 shared-slice-read-if2-2 c = search rules
 
-returns-2 : tie.Need-returns-2 invariant-loop decreases-loop
+returns-2 : tie.Need-returns-then-bytes-i invariant-loop decreases-loop
 returns-2 c =
     let l = c.before.before.before in
-    sym (sym l.before.loop.invariant.1 ∙ same_stop _ _ _ l.loop-test.true (in-word l) c.if2.true)
+    sym (sym l.before.loop-i.invariant.1 ∙ same_stop _ _ _ l.loop-i-test.true (in-word l) c.if-bytes-i.true)
 
-add-i : tie.Need-overflow-add-i invariant-loop decreases-loop
+add-i : tie.Need-overflow_add-i invariant-loop decreases-loop
 add-i c = search rules
 
-loop-less : tie.Need-loop-smaller invariant-loop decreases-loop
+loop-less : tie.Need-loop-i-smaller invariant-loop decreases-loop
 loop-less c = search rules
 
-loop-again : tie.Need-loop-preserved invariant-loop decreases-loop
+loop-again : tie.Need-loop-i-preserved invariant-loop decreases-loop
 loop-again c =
     let l = c.before.before.before in
-    (omega arith, sym (same_step _ _ _ l.loop-test.true (in-word l) c.if2.false) ∙ l.before.loop.invariant.1)
+    (omega arith, sym (same_step _ _ _ l.loop-i-test.true (in-word l) c.if-bytes-i.false) ∙ l.before.loop-i.invariant.1)
 
-returns-3 : tie.Need-returns-3 invariant-loop decreases-loop
+returns-3 : tie.Need-returns invariant-loop decreases-loop
 returns-3 c =
-    let end : length c.before.before.before.args.word.now ≤ c.before.loop.i = omega arith in
-    sym (sym c.before.loop.invariant.1 ∙ same_end _ _ _ c.loop-test.false end)
+    let end : length c.before.before.before.args.word.now ≤ c.before.loop-i.i = omega arith in
+    sym (sym c.before.loop-i.invariant.1 ∙ same_end _ _ _ c.loop-i-test.false end)
 
-pub are-same-spec : {M : Type 1} → statement M
-are-same-spec =
+pub are_same_spec : {M : Type 1} → statement M
+are_same_spec =
     tie.close
     (tie.spec
     invariant-loop

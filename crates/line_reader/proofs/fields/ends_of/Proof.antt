@@ -5,7 +5,11 @@ use Rattle.line_reader.proofs.fields.ends_of.Statement.{statement}
 use Rattle.line_reader.proofs.fields.ends_of.Tie as tie
 
 returns : tie.Need-returns
-returns c = rw (c.next-end2.ensures.1, c.before.next-end.ensures.1, c.before.before.find-from.ensures.1)
+returns c = rw (c.next_end-second.ensures.1, c.before.next_end-first.ensures.1, c.before.before.find_from-word.ensures.1)
 
-pub ends-of-spec : {M : Type 1} → statement M
-ends-of-spec = tie.close (tie.spec (λ c κs. search rules) (λ c κs. search rules) (λ c κs. search rules) returns)
+pub ends_of_spec : {M : Type 1} → statement M
+ends_of_spec = tie.close (tie.spec 
+    (λ c κs. search rules)
+    (λ c κs. search rules)
+    (λ c κs. search rules)
+    returns)

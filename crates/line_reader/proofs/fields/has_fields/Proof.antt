@@ -12,53 +12,53 @@ use Rattle.line_reader.proofs.FieldLaws.{count-tab, count-last, count-done}
 use Rattle.line_reader.proofs.fields.has_fields.Statement.{statement}
 use Rattle.line_reader.proofs.fields.has_fields.Tie as tie
 
-abbrev invariant-loop : tie.invariant-loop
+abbrev invariant-loop : tie.invariant-loop-left
 invariant-loop line count at₀ left₀ at left = (at ≤ length line) × (left ≤ count) × (length (split tab line).rest + left ≡ count + length (split tab (drop at line)).rest)
 
-abbrev decreases-loop : tie.decreases-loop
+abbrev decreases-loop : tie.decreases-loop-left
 decreases-loop line count at₀ left₀ at left = left
 
-loop-holds : tie.Need-loop-init invariant-loop decreases-loop
+loop-holds : tie.Need-loop-left-init invariant-loop decreases-loop
 loop-holds c = (omega arith, omega arith, omega arith)
 
-find-from-requires : tie.Need-find-from-requires invariant-loop decreases-loop
+find-from-requires : tie.Need-find_from-end-requires invariant-loop decreases-loop
 find-from-requires c κs = search rules
 
-returns : tie.Need-returns invariant-loop decreases-loop
+returns : tie.Need-returns-then-end-line invariant-loop decreases-loop
 returns c =
-    let e = c.before.find-from.ensures in
+    let e = c.before.find_from-end.ensures in
     let a = c.before.before.before.before.before.args in
     let line = a.line.now in
-    let none = count-last line c.before.before.before.loop.at c.before.find-from.result e.1 c.if1.true in
+    let none = count-last line c.before.before.before.loop-left.at c.before.find_from-end.result e.1 c.if-end-line.true in
     sym (ne_eqb (length (split tab line).rest) a.count (λ z. omega arith))
 
-add_at : tie.Need-overflow-add-at invariant-loop decreases-loop
+add_at : tie.Need-overflow_add-at invariant-loop decreases-loop
 add_at c = search rules
 
-sub-left : tie.Need-overflow-sub-left invariant-loop decreases-loop
+sub-left : tie.Need-overflow_sub-left invariant-loop decreases-loop
 sub-left c = search rules
 
-loop-less : tie.Need-loop-smaller invariant-loop decreases-loop
+loop-less : tie.Need-loop-left-smaller invariant-loop decreases-loop
 loop-less c = search rules
 
-loop-again : tie.Need-loop-preserved invariant-loop decreases-loop
+loop-again : tie.Need-loop-left-preserved invariant-loop decreases-loop
 loop-again c =
-    let e = c.before.find-from.ensures in
+    let e = c.before.find_from-end.ensures in
     let line = c.before.before.before.before.before.args.line.now in
-    let inside : c.before.find-from.result < length line = omega arith in
-    (omega arith, omega arith, omega (arith, count-tab line c.before.before.before.loop.at c.before.find-from.result e.1 inside))
+    let inside : c.before.find_from-end.result < length line = omega arith in
+    (omega arith, omega arith, omega (arith, count-tab line c.before.before.before.loop-left.at c.before.find_from-end.result e.1 inside))
 
-find-from-requires-2 : tie.Need-find-from-requires-2 invariant-loop decreases-loop
+find-from-requires-2 : tie.Need-find_from-requires invariant-loop decreases-loop
 find-from-requires-2 c κs = search rules
 
-returns-2 : tie.Need-returns-2 invariant-loop decreases-loop
+returns-2 : tie.Need-returns invariant-loop decreases-loop
 returns-2 c =
-    let e = c.find-from2.ensures in
+    let e = c.find_from.ensures in
     let a = c.before.before.before.before.args in
-    count-done a.line.now c.before.before.loop.at c.find-from2.result e.1 (omega arith) (length (split tab a.line.now).rest) a.count (omega arith)
+    count-done a.line.now c.before.before.loop-left.at c.find_from.result e.1 (omega arith) (length (split tab a.line.now).rest) a.count (omega arith)
 
-pub has-fields-spec : {M : Type 1} → statement M
-has-fields-spec =
+pub has_fields_spec : {M : Type 1} → statement M
+has_fields_spec =
     tie.close
     (tie.spec
     invariant-loop

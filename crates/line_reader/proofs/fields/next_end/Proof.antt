@@ -8,15 +8,19 @@ use Rattle.line_reader.proofs.EndsLaws.{more-after, none_after}
 use Rattle.line_reader.proofs.fields.next_end.Statement.{statement}
 use Rattle.line_reader.proofs.fields.next_end.Tie as tie
 
-returns : tie.Need-returns
+returns : tie.Need-returns-then-end-line
 returns c =
     let a = c.before.before.before.args in
-    (omega (arith, c.find-from.ensures.0), c.find-from.ensures.1 ∙ sym (more-after a.line.now a.end (omega arith)))
+    (omega (arith, c.find_from.ensures.0), c.find_from.ensures.1 ∙ sym (more-after a.line.now a.end (omega arith)))
 
-returns-2 : tie.Need-returns-2
+returns-2 : tie.Need-returns-else-end-line
 returns-2 c =
     let a = c.before.before.args in
     (c.before.before.requires, sym (none_after a.line.now a.end (omega arith)))
 
-pub next-end-spec : {M : Type 1} → statement M
-next-end-spec = tie.close (tie.spec (λ c. search rules) (λ c κs. search rules) returns returns-2)
+pub next_end_spec : {M : Type 1} → statement M
+next_end_spec = tie.close (tie.spec 
+    (λ c. search rules)
+    (λ c κs. search rules)
+    returns
+    returns-2)

@@ -18,90 +18,90 @@ use Rattle.line_reader.proofs.FieldLaws.{word-is, word-not}
 use Rattle.line_reader.proofs.fields.tag_by.Statement.{statement}
 use Rattle.line_reader.proofs.fields.tag_by.Tie as tie
 
-slice-aggregate-word : tie.Need-slice-aggregate-word
+slice-aggregate-word : tie.Need-slice_bounds-word-end
 slice-aggregate-word c = sym (length-take-le _ _ (let a = c.before.before.args in omega (arith, c.before.before.requires, part-most a.line.now 0 (omega arith))))
 
 -- the first so many tags do not have the word
-abbrev Past : ℕ → tie.After-shared-slice-known → Type 0
+abbrev Past : ℕ → tie.After-shared_slice_known-1 → Type 0
 Past n c =
     let line : List ℕ = c.before.args.line.now in
     tag_of_word (split tab line).first ≡ tag_among (drop n tags) (take c.before.args.end line)
 
-past-0 : (c : tie.After-shared-slice-known) → Past 0 c
+past-0 : (c : tie.After-shared_slice_known-1) → Past 0 c
 past-0 c =
     let line = c.before.args.line.now in
     ap tag_of_word (first_part tab line ∙ sym (ap (λ (n : ℕ). take n line) (c.before.requires ∙ zero-add _)))
 
-returns : tie.Need-returns
+returns : tie.Need-returns-then-are_same
 unfolding ascii
-returns c = sym (past-0 c.before.before.before.before ∙ word-is tag.PlainContents _ _ (sym c.before.are-same.ensures ∙ c.if1.true))
+returns c = sym (past-0 c.before.before.before.before ∙ word-is tag.PlainContents _ _ (sym c.before.are_same.ensures ∙ c.if-are_same.true))
 
-past-1 : (c : tie.Else1) → Past 1 c.before.before.before.before
+past-1 : (c : tie.Else-are_same) → Past 1 c.before.before.before.before
 unfolding ascii
-past-1 c = past-0 c.before.before.before.before ∙ word-not tag.PlainContents _ _ (sym c.before.are-same.ensures ∙ c.if1.false)
+past-1 c = past-0 c.before.before.before.before ∙ word-not tag.PlainContents _ _ (sym c.before.are_same.ensures ∙ c.if-are_same.false)
 
-returns-2 : tie.Need-returns-2
+returns-2 : tie.Need-returns-then-are_same-2
 unfolding ascii
-returns-2 c = sym (past-1 c.before.before.before ∙ word-is tag.PackedContents _ _ (sym c.before.are-same2.ensures ∙ c.if2.true))
+returns-2 c = sym (past-1 c.before.before.before ∙ word-is tag.PackedContents _ _ (sym c.before.are_same-2.ensures ∙ c.if-are_same-2.true))
 
-past-2 : (c : tie.Else2) → Past 2 c.before.before.before.before.before.before.before
+past-2 : (c : tie.Else-are_same-2) → Past 2 c.before.before.before.before.before.before.before
 unfolding ascii
-past-2 c = past-1 c.before.before.before ∙ word-not tag.PackedContents _ _ (sym c.before.are-same2.ensures ∙ c.if2.false)
+past-2 c = past-1 c.before.before.before ∙ word-not tag.PackedContents _ _ (sym c.before.are_same-2.ensures ∙ c.if-are_same-2.false)
 
-returns-3 : tie.Need-returns-3
+returns-3 : tie.Need-returns-then-are_same-3
 unfolding ascii
-returns-3 c = sym (past-2 c.before.before.before ∙ word-is tag.Names _ _ (sym c.before.are-same3.ensures ∙ c.if3.true))
+returns-3 c = sym (past-2 c.before.before.before ∙ word-is tag.Names _ _ (sym c.before.are_same-3.ensures ∙ c.if-are_same-3.true))
 
-past-3 : (c : tie.Else3) → Past 3 c.before.before.before.before.before.before.before.before.before.before
+past-3 : (c : tie.Else-are_same-3) → Past 3 c.before.before.before.before.before.before.before.before.before.before
 unfolding ascii
-past-3 c = past-2 c.before.before.before ∙ word-not tag.Names _ _ (sym c.before.are-same3.ensures ∙ c.if3.false)
+past-3 c = past-2 c.before.before.before ∙ word-not tag.Names _ _ (sym c.before.are_same-3.ensures ∙ c.if-are_same-3.false)
 
-returns-4 : tie.Need-returns-4
+returns-4 : tie.Need-returns-then-are_same-4
 unfolding ascii
-returns-4 c = sym (past-3 c.before.before.before ∙ word-is tag.Arguments _ _ (sym c.before.are-same4.ensures ∙ c.if4.true))
+returns-4 c = sym (past-3 c.before.before.before ∙ word-is tag.Arguments _ _ (sym c.before.are_same-4.ensures ∙ c.if-are_same-4.true))
 
-past-4 : (c : tie.Else4) → Past 4 c.before.before.before.before.before.before.before.before.before.before.before.before.before
+past-4 : (c : tie.Else-are_same-4) → Past 4 c.before.before.before.before.before.before.before.before.before.before.before.before.before
 unfolding ascii
-past-4 c = past-3 c.before.before.before ∙ word-not tag.Arguments _ _ (sym c.before.are-same4.ensures ∙ c.if4.false)
+past-4 c = past-3 c.before.before.before ∙ word-not tag.Arguments _ _ (sym c.before.are_same-4.ensures ∙ c.if-are_same-4.false)
 
-returns-5 : tie.Need-returns-5
+returns-5 : tie.Need-returns-then-are_same-5
 unfolding ascii
-returns-5 c = sym (past-4 c.before.before.before ∙ word-is tag.Unknown _ _ (sym c.before.are-same5.ensures ∙ c.if5.true))
+returns-5 c = sym (past-4 c.before.before.before ∙ word-is tag.Unknown _ _ (sym c.before.are_same-5.ensures ∙ c.if-are_same-5.true))
 
-past-5 : (c : tie.Else5) → Past 5 c.before.before.before.before.before.before.before.before.before.before.before.before.before.before.before.before
+past-5 : (c : tie.Else-are_same-5) → Past 5 c.before.before.before.before.before.before.before.before.before.before.before.before.before.before.before.before
 unfolding ascii
-past-5 c = past-4 c.before.before.before ∙ word-not tag.Unknown _ _ (sym c.before.are-same5.ensures ∙ c.if5.false)
+past-5 c = past-4 c.before.before.before ∙ word-not tag.Unknown _ _ (sym c.before.are_same-5.ensures ∙ c.if-are_same-5.false)
 
-returns-6 : tie.Need-returns-6
+returns-6 : tie.Need-returns-then-are_same-6
 unfolding ascii
-returns-6 c = sym (past-5 c.before.before.before ∙ word-is tag.Content _ _ (sym c.before.are-same6.ensures ∙ c.if6.true))
+returns-6 c = sym (past-5 c.before.before.before ∙ word-is tag.Content _ _ (sym c.before.are_same-6.ensures ∙ c.if-are_same-6.true))
 
-past-6 : (c : tie.Else6) → Past 6 c.before.before.before.before.before.before.before.before.before.before.before.before.before.before.before.before.before.before.before
+past-6 : (c : tie.Else-are_same-6) → Past 6 c.before.before.before.before.before.before.before.before.before.before.before.before.before.before.before.before.before.before.before
 unfolding ascii
-past-6 c = past-5 c.before.before.before ∙ word-not tag.Content _ _ (sym c.before.are-same6.ensures ∙ c.if6.false)
+past-6 c = past-5 c.before.before.before ∙ word-not tag.Content _ _ (sym c.before.are_same-6.ensures ∙ c.if-are_same-6.false)
 
-returns-7 : tie.Need-returns-7
+returns-7 : tie.Need-returns-then-are_same-7
 unfolding ascii
-returns-7 c = sym (past-6 c.before.before.before ∙ word-is tag.Name _ _ (sym c.before.are-same7.ensures ∙ c.if7.true))
+returns-7 c = sym (past-6 c.before.before.before ∙ word-is tag.Name _ _ (sym c.before.are_same-7.ensures ∙ c.if-are_same-7.true))
 
-past-7 : (c : tie.Else7) → Past 7 c.before.before.before.before.before.before.before.before.before.before.before.before.before.before.before.before.before.before.before.before.before.before
+past-7 : (c : tie.Else-are_same-7) → Past 7 c.before.before.before.before.before.before.before.before.before.before.before.before.before.before.before.before.before.before.before.before.before.before
 unfolding ascii
-past-7 c = past-6 c.before.before.before ∙ word-not tag.Name _ _ (sym c.before.are-same7.ensures ∙ c.if7.false)
+past-7 c = past-6 c.before.before.before ∙ word-not tag.Name _ _ (sym c.before.are_same-7.ensures ∙ c.if-are_same-7.false)
 
-returns-8 : tie.Need-returns-8
+returns-8 : tie.Need-returns-then-are_same-8
 unfolding ascii
-returns-8 c = sym (past-7 c.before.before.before ∙ word-is tag.Pair _ _ (sym c.before.are-same8.ensures ∙ c.if8.true))
+returns-8 c = sym (past-7 c.before.before.before ∙ word-is tag.Pair _ _ (sym c.before.are_same-8.ensures ∙ c.if-are_same-8.true))
 
-past-8 : (c : tie.Else8) → Past 8 c.before.before.before.before.before.before.before.before.before.before.before.before.before.before.before.before.before.before.before.before.before.before.before.before.before
+past-8 : (c : tie.Else-are_same-8) → Past 8 c.before.before.before.before.before.before.before.before.before.before.before.before.before.before.before.before.before.before.before.before.before.before.before.before.before
 unfolding ascii
-past-8 c = past-7 c.before.before.before ∙ word-not tag.Pair _ _ (sym c.before.are-same8.ensures ∙ c.if8.false)
+past-8 c = past-7 c.before.before.before ∙ word-not tag.Pair _ _ (sym c.before.are_same-8.ensures ∙ c.if-are_same-8.false)
 
-returns-9 : tie.Need-returns-9
+returns-9 : tie.Need-returns
 unfolding tag_among
 returns-9 c = sym (past-8 c)
 
-pub tag-by-spec : {M : Type 1} → statement M
-tag-by-spec =
+pub tag_by_spec : {M : Type 1} → statement M
+tag_by_spec =
     tie.close
     (tie.spec
     slice-aggregate-word

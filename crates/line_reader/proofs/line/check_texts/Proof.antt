@@ -17,59 +17,60 @@ use Rattle.line_reader.proofs.line.check_texts.Tie as tie
 of_field : {a : Check} {t f : List ℕ} → a ≡ verdict (check_whole t) → t ≡ f → a ≡ verdict (check_whole f)
 of_field e is = e ∙ ap (λ (t : List ℕ). verdict (check_whole t)) is
 
-returns : tie.Need-returns
+returns : tie.Need-returns-in-Content
 unfolding text_fields check_all
-returns c = rw c.before.before.enum_told.given.1 (of_field c.check-whole.ensures c.before.field-by.ensures ∙ last-text _)
+returns c = rw c.before.before.enum_told-1.given.1 (of_field c.check_whole.ensures c.before.field_by.ensures ∙ last-text _)
 
-returns-2 : tie.Need-returns-2
+returns-2 : tie.Need-returns-in-Name
 unfolding text_fields check_all
-returns-2 c = rw c.before.before.enum-told2.given.1 (of_field c.check-whole2.ensures c.before.field-by2.ensures ∙ last-text _)
+returns-2 c = rw c.before.before.enum_told-in-Name-1.given.1 (of_field c.check_whole-in-Name.ensures c.before.field_by-in-Name.ensures ∙ last-text _)
 
-returns-3 : tie.Need-returns-3
+returns-3 : tie.Need-returns-in-Refused
 unfolding text_fields check_all
 returns-3 c =
     let first = c.before.before.before in
-    let told = of_field first.check-whole3.ensures first.before.field-by3.ensures in
-    rw first.before.before.enum-told3.given.1 (sym (ap verdict (after-fault _ _ (not-passed _ _ (sym told ∙ c.before.refusal.given.1)))))
+    let told = of_field first.check_whole-in-Pair.ensures first.before.field_by-in-Pair.ensures in
+    rw first.before.before.enum_told-in-Pair-1.given.1 (sym (ap verdict (after-fault _ _ (not-passed _ _ (sym told ∙ c.before.refusal-1.given.1)))))
 
-returns-4 : tie.Need-returns-4
+returns-4 : tie.Need-returns-in-Passed
 unfolding text_fields check_all
 returns-4 c =
     let first = c.before.before.before.before in
-    let told = of_field first.check-whole3.ensures first.before.field-by3.ensures in
-    rw first.before.before.enum-told3.given.1
-    (of_field c.check-whole4.ensures c.before.field-by4.ensures ∙
+    let told = of_field first.check_whole-in-Pair.ensures first.before.field_by-in-Pair.ensures in
+    rw first.before.before.enum_told-in-Pair-1.given.1
+    (of_field c.check_whole-in-Passed.ensures c.before.field_by-in-Passed.ensures ∙
     last-text _ ∙
-    sym (ap verdict (after-good _ _ (passed _ (sym told ∙ c.before.before.enum-told4.given.1)))))
+    sym (ap verdict (after-good _ _ (passed _ (sym told ∙ c.before.before.enum_told-in-Passed-1.given.1)))))
 
-returns-5 : tie.Need-returns-5
+returns-5 : tie.Need-returns-in-PlainContents
 unfolding text_fields check_all
-returns-5 c = rw c.enum-told5.given.1
+returns-5 c = rw c.enum_told-in-PlainContents-1.given.1
 
-returns-6 : tie.Need-returns-6
+returns-6 : tie.Need-returns-in-PackedContents
 unfolding text_fields check_all
-returns-6 c = rw c.enum-told6.given.1
+returns-6 c = rw c.enum_told-in-PackedContents-1.given.1
 
-returns-7 : tie.Need-returns-7
+returns-7 : tie.Need-returns-in-Names
 unfolding text_fields check_all
-returns-7 c = rw c.enum-told7.given.1
+returns-7 c = rw c.enum_told-in-Names-1.given.1
 
-returns-8 : tie.Need-returns-8
+returns-8 : tie.Need-returns-in-Arguments
 unfolding text_fields check_all
-returns-8 c = rw c.enum-told8.given.1
+returns-8 c = rw c.enum_told-in-Arguments-1.given.1
 
-returns-9 : tie.Need-returns-9
+returns-9 : tie.Need-returns-in-Unknown
 unfolding text_fields check_all
-returns-9 c = rw c.enum-told9.given.1
+returns-9 c = rw c.enum_told-in-Unknown-1.given.1
 
-returns-10 : tie.Need-returns-10
+returns-10 : tie.Need-returns-in-None
 unfolding text_fields check_all
-returns-10 c = rw c.enum-told10.given.1
+returns-10 c = rw c.enum_told-in-None-1.given.1
 
-pub check-texts-spec : {M : Type 1} → statement M
-check-texts-spec =
+pub check_texts_spec : {M : Type 1} → statement M
+check_texts_spec =
     tie.close
     (tie.spec
+
     (λ c. search rules)
     (λ c κs. search rules)
     (λ c κs. search rules)

@@ -4,37 +4,38 @@ use borrow.Author.Rules.{rules}
 use Rattle.line_reader.proofs.line.field_count.Statement.{statement}
 use Rattle.line_reader.proofs.line.field_count.Tie as tie
 
-returns : tie.Need-returns
-returns c = rw c.enum_told.given.1
+returns : tie.Need-returns-in-PlainContents
+returns c = rw c.enum_told-1.given.1
 
-returns-2 : tie.Need-returns-2
-returns-2 c = rw c.enum-told2.given.1
+returns-2 : tie.Need-returns-in-PackedContents
+returns-2 c = rw c.enum_told-in-PackedContents-1.given.1
 
-returns-3 : tie.Need-returns-3
-returns-3 c = rw c.enum-told3.given.1
+returns-3 : tie.Need-returns-in-Names
+returns-3 c = rw c.enum_told-in-Names-1.given.1
 
-returns-4 : tie.Need-returns-4
-returns-4 c = rw c.enum-told4.given.1
+returns-4 : tie.Need-returns-in-Arguments
+returns-4 c = rw c.enum_told-in-Arguments-1.given.1
 
-returns-5 : tie.Need-returns-5
-returns-5 c = rw c.enum-told5.given.1
+returns-5 : tie.Need-returns-in-Unknown
+returns-5 c = rw c.enum_told-in-Unknown-1.given.1
 
-returns-6 : tie.Need-returns-6
-returns-6 c = rw c.enum-told6.given.1
+returns-6 : tie.Need-returns-in-Content
+returns-6 c = rw c.enum_told-in-Content-1.given.1
 
-returns-7 : tie.Need-returns-7
-returns-7 c = rw c.enum-told7.given.1
+returns-7 : tie.Need-returns-in-Name
+returns-7 c = rw c.enum_told-in-Name-1.given.1
 
-returns-8 : tie.Need-returns-8
-returns-8 c = rw c.enum-told8.given.1
+returns-8 : tie.Need-returns-in-Pair
+returns-8 c = rw c.enum_told-in-Pair-1.given.1
 
-returns-9 : tie.Need-returns-9
-returns-9 c = rw c.enum-told9.given.1
+returns-9 : tie.Need-returns-in-None
+returns-9 c = rw c.enum_told-in-None-1.given.1
 
-pub field-count-spec : {M : Type 1} → statement M
-field-count-spec =
+pub field_count_spec : {M : Type 1} → statement M
+field_count_spec =
     tie.close
     (tie.spec
+
     (λ c. search rules)
     (λ c. search rules)
     (λ c. search rules)

@@ -5,12 +5,13 @@ use Rattle.line_reader.proofs.line.is_placed.Statement.{statement}
 use Rattle.line_reader.proofs.line.is_placed.Tie as tie
 
 returns : tie.Need-returns
-returns c = rw (c.same2.ensures, c.before.entry-tag.ensures, c.before.before.begins-section.ensures, c.before.before.before.same.ensures)
+returns c = rw (c.same-2.ensures, c.before.entry_tag.ensures, c.before.before.begins_section.ensures, c.before.before.before.same.ensures)
 
-pub is-placed-spec : {M : Type 1} → statement M
-is-placed-spec =
+pub is_placed_spec : {M : Type 1} → statement M
+is_placed_spec =
     tie.close
     (tie.spec
+
     (λ c κs. search rules)
     (λ c κs. search rules)
     (λ c κs. search rules)

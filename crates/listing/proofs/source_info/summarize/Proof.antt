@@ -11,73 +11,73 @@ use Rattle.listing.proofs.source_info.summarize.Tie as tie
 
 -- the kind of the section
 kind-told :
-    (c : tie.After-from-u16) {t : SourceInfoSectionType} →
-    c.from-u16.result ≡ t →
+    (c : tie.After-from_u16) {t : SourceInfoSectionType} →
+    c.from_u16.result ≡ t →
     (let a = c.before.before.before.args in kind_at a.payload.now a.at ≡ t)
-kind-told c e = ap section_type (sym c.before.read-u16.ensures) ∙ sym c.from-u16.ensures ∙ e
+kind-told c e = ap section_type (sym c.before.read_u16.ensures) ∙ sym c.from_u16.ensures ∙ e
 
-add-read-u16 : tie.Need-overflow-add-read-u16
+add-read-u16 : tie.Need-overflow_add-at
 add-read-u16 c = search rules
 
-read-u16-requires : tie.Need-read-u16-requires
+read-u16-requires : tie.Need-read_u16-requires
 read-u16-requires c κs = search rules
 
-from-u16-requires : tie.Need-from-u16-requires
+from-u16-requires : tie.Need-from_u16-requires
 from-u16-requires c κs = search rules
 
-enum_told : tie.Need-enum-told
+enum_told : tie.Need-enum_told-1
 enum_told c = search rules
 
-summarize-contents-requires : tie.Need-summarize-contents-requires
+summarize-contents-requires : tie.Need-summarize_contents-requires
 summarize-contents-requires c κs = search rules
 
-enum-told-2 : tie.Need-enum-told-2
+enum-told-2 : tie.Need-enum_told-in-SourceNames
 enum-told-2 c = search rules
 
-add-read-u32 : tie.Need-overflow-add-read-u32
+add-read-u32 : tie.Need-overflow_add-at-in-SourceNames
 add-read-u32 c = search rules
 
-read-u32-requires : tie.Need-read-u32-requires
+read-u32-requires : tie.Need-read_u32-requires
 read-u32-requires c κs = search rules
 
-enum-told-3 : tie.Need-enum-told-3
+enum-told-3 : tie.Need-enum_told-in-Arguments
 enum-told-3 c = search rules
 
-add-read-u32-2 : tie.Need-overflow-add-read-u32-2
+add-read-u32-2 : tie.Need-overflow_add-at-in-Arguments
 add-read-u32-2 c = search rules
 
-read-u32-requires-2 : tie.Need-read-u32-requires-2
+read-u32-requires-2 : tie.Need-read_u32-requires-in-Arguments
 read-u32-requires-2 c κs = search rules
 
-enum-known-kind : tie.Need-enum-known-kind
+enum-known-kind : tie.Need-enum_known-kind
 enum-known-kind c = search rules
 
-read-u32-requires-3 : tie.Need-read-u32-requires-3
+read-u32-requires-3 : tie.Need-read_u32-requires-in-Unknown
 read-u32-requires-3 c κs = search rules
 
-body-size-requires : tie.Need-body-size-requires
+body-size-requires : tie.Need-body_size-requires
 body-size-requires c κs = search rules
 
-returns : tie.Need-returns
+returns : tie.Need-returns-in-SourceContents
 unfolding section_line
-returns c = rw (kind-told c.before.before.before c.before.enum_told.given.1) c.summarize-contents.ensures
+returns c = rw (kind-told c.before.before.before c.before.enum_told-1.given.1) c.summarize_contents.ensures
 
-returns-2 : tie.Need-returns-2
+returns-2 : tie.Need-returns-in-SourceNames
 unfolding section_line
-returns-2 c = rw (kind-told c.before.before.before c.before.enum-told2.given.1, c.read_u32.ensures)
+returns-2 c = rw (kind-told c.before.before.before c.before.enum_told-in-SourceNames-1.given.1, c.read_u32.ensures)
 
-returns-3 : tie.Need-returns-3
+returns-3 : tie.Need-returns-in-Arguments
 unfolding section_line
-returns-3 c = rw (kind-told c.before.before.before c.before.enum-told3.given.1, c.read-u322.ensures)
+returns-3 c = rw (kind-told c.before.before.before c.before.enum_told-in-Arguments-1.given.1, c.read_u32-in-Arguments.ensures)
 
-returns-4 : tie.Need-returns-4
+returns-4 : tie.Need-returns-in-Unknown
 unfolding section_line
 returns-4 c =
     let k = c.before.before.before in
-    rw (kind-told k.before.before k.kind.given.1, c.body-size.ensures, c.before.read-u323.ensures)
+    rw (kind-told k.before.before k.kind-1.given.1, c.body_size.ensures, c.before.read_u32-in-Unknown.ensures)
 
-pub summarize-spec : {M : Type 1} → statement M
-summarize-spec =
+pub summarize_spec : {M : Type 1} → statement M
+summarize_spec =
     tie.close
     (tie.spec
     add-read-u16

@@ -14,45 +14,45 @@ compression-told :
     (c : tie.After-checked) {t : SourceCompression} →
     c.checked.result ≡ t →
     (let a = c.before.before.before.before.args in compression_at a.payload.now a.at ≡ t)
-compression-told c e = ap checked_compression (sym c.before.read-u16.ensures) ∙ sym c.checked.ensures ∙ e
+compression-told c e = ap checked_compression (sym c.before.read_u16.ensures) ∙ sym c.checked.ensures ∙ e
 
-add-read-u32 : tie.Need-overflow-add-read-u32
+add-read-u32 : tie.Need-overflow_add-at
 add-read-u32 c = search rules
 
-read-u32-requires : tie.Need-read-u32-requires
+read-u32-requires : tie.Need-read_u32-count-requires
 read-u32-requires c κs = search rules
 
-add-read-u16 : tie.Need-overflow-add-read-u16
+add-read-u16 : tie.Need-overflow_add-at-2
 add-read-u16 c = search rules
 
-read-u16-requires : tie.Need-read-u16-requires
+read-u16-requires : tie.Need-read_u16-requires
 read-u16-requires c κs = search rules
 
 checked-requires : tie.Need-checked-requires
 checked-requires c κs = search rules
 
-enum_told : tie.Need-enum-told
+enum_told : tie.Need-enum_told-1
 enum_told c = search rules
 
-enum-told-2 : tie.Need-enum-told-2
+enum-told-2 : tie.Need-enum_told-in-Zlib
 enum-told-2 c = search rules
 
-add-read-u32-2 : tie.Need-overflow-add-read-u32-2
+add-read-u32-2 : tie.Need-overflow_add-at-in-Zlib
 add-read-u32-2 c = search rules
 
-read-u32-requires-2 : tie.Need-read-u32-requires-2
+read-u32-requires-2 : tie.Need-read_u32-requires
 read-u32-requires-2 c κs = search rules
 
-returns : tie.Need-returns
+returns : tie.Need-returns-in-None
 unfolding contents_line
-returns c = rw (compression-told c.before.before c.enum_told.given.1, c.before.before.before.before.read_u32.ensures)
+returns c = rw (compression-told c.before.before c.enum_told-1.given.1, c.before.before.before.before.read_u32-count.ensures)
 
-returns-2 : tie.Need-returns-2
+returns-2 : tie.Need-returns-in-Zlib
 unfolding contents_line
-returns-2 c = rw (compression-told c.before.before.before c.before.enum-told2.given.1, c.read-u322.ensures, c.before.before.before.before.before.read_u32.ensures)
+returns-2 c = rw (compression-told c.before.before.before c.before.enum_told-in-Zlib-1.given.1, c.read_u32.ensures, c.before.before.before.before.before.read_u32-count.ensures)
 
-pub summarize-contents-spec : {M : Type 1} → statement M
-summarize-contents-spec =
+pub summarize_contents_spec : {M : Type 1} → statement M
+summarize_contents_spec =
     tie.close
     (tie.spec
     add-read-u32

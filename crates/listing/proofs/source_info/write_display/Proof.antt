@@ -12,24 +12,24 @@ use Rattle.display.proofs.LineLaws.{page-stored}
 use Rattle.listing.proofs.source_info.write_display.Statement.{statement}
 use Rattle.listing.proofs.source_info.write_display.Tie as tie
 
-read-u16-requires : tie.Need-read-u16-requires
+read-u16-requires : tie.Need-read_u16-count-requires
 read-u16-requires c κs = search rules
 
-cast-write-heading : tie.Need-overflow-cast-write-heading
+cast-write-heading : tie.Need-overflow_cast-count
 cast-write-heading c = search rules
 
-write-heading-requires : tie.Need-write-heading-requires
+write-heading-requires : tie.Need-write_heading-start-requires
 write-heading-requires c κs = search rules
 
-write-lines-requires : tie.Need-write-lines-requires
-write-lines-requires c κs = omega (arith, c.before.before.before.write-heading.ensures.1.0)
+write-lines-requires : tie.Need-write_lines-requires
+write-lines-requires c κs = omega (arith, c.before.before.before.write_heading-start.ensures.1.0)
 
-cast-result : tie.Need-overflow-cast-result
+cast-result : tie.Need-overflow_cast-result
 cast-result c =
     let lines = c.before.before in
-    omega (arith, lines.write-lines.ensures.1.0, lines.before.before.before.before.write-heading.ensures.1.0)
+    omega (arith, lines.write_lines.ensures.1.0, lines.before.before.before.before.write_heading-start.ensures.1.0)
 
-same_length : tie.Need-same-length
+same_length : tie.Need-shape_of-output
 same_length c = search rules
 
 returns : tie.Need-returns
@@ -40,14 +40,14 @@ returns c =
     let read = h.before.before in
     let a = read.before.before.before.args in
     let p = a.payload.now in
-    let count = read.read-u16.result in
+    let count = read.read_u16-count.result in
     let many : length (map (line_at p) (places_from p count 8)) ≡ count = length-map (places_from p count 8) (line_at p) ∙ length-places p count 8 in
-    let (start, (most, headed)) = h.write-heading.ensures in
-    let (end, (limit, stored)) = lines.write-lines.ensures in
-    rw (← read.read-u16.ensures) (page-stored (map (line_at p) (places_from p count 8)) a.output.now (sym many) (start, headed) (end, stored))
+    let (start, (most, headed)) = h.write_heading-start.ensures in
+    let (end, (limit, stored)) = lines.write_lines.ensures in
+    rw (← read.read_u16-count.ensures) (page-stored (map (line_at p) (places_from p count 8)) a.output.now (sym many) (start, headed) (end, stored))
 
-pub write-display-spec : {M : Type 1} → statement M
-write-display-spec =
+pub write_display_spec : {M : Type 1} → statement M
+write_display_spec =
     tie.close
     (tie.spec
     read-u16-requires

@@ -17,19 +17,19 @@ use Rattle.format.proofs.PairLaws.{run, length_run, text-open, text-ill-formed, 
 use Rattle.parse.proofs.arguments.check_any_pair_text.Statement.{statement}
 use Rattle.parse.proofs.arguments.check_any_pair_text.Tie as tie
 
-sub-find-nul : tie.Need-overflow-sub-find-nul
+sub-find-nul : tie.Need-slice_bounds-find_nul-count
 sub-find-nul c = search rules
 
-part-find-nul-start : tie.Need-slice-bounds-find-nul-start
+part-find-nul-start : tie.Need-slice_bounds-find_nul-start
 part-find-nul-start c = search rules
 
-part-find-nul-end : tie.Need-slice-bounds-find-nul-end
+part-find-nul-end : tie.Need-slice_bounds-find_nul-end
 part-find-nul-end c = search rules
 
-find-nul-requires : tie.Need-find-nul-requires
+find-nul-requires : tie.Need-find_nul-count-requires
 find-nul-requires c κs = search rules
 
-sub-if1 : tie.Need-overflow-sub-if1
+sub-if1 : tie.Need-overflow_sub-end
 sub-if1 c = search rules
 
 -- the run that the text is looked for in
@@ -40,43 +40,43 @@ length_rest : (s : tie.Start) → length (rest s) ≡ s.args.end - s.args.at
 length_rest s = length_run s.args.payload.now s.args.at s.args.end (omega arith)
 
 -- the NUL lies before `end`, or there is none
-within : (c : tie.After-find-nul) → (let a = c.before.before.before.args in a.at + c.find-nul.result ≤ a.end)
+within : (c : tie.After-find_nul-count) → (let a = c.before.before.before.args in a.at + c.find_nul-count.result ≤ a.end)
 within c =
     let s = c.before.before.before in
-    omega (arith, c.find-nul.ensures, until-length (rest s), length_rest s)
+    omega (arith, c.find_nul-count.ensures, until-length (rest s), length_rest s)
 
-returns : tie.Need-returns
+returns : tie.Need-returns-then-count-end
 returns c =
     let s = c.before.before.before.before in
-    sym (ap maybe_text (text-open _ _ _ (omega (arith, c.before.find-nul.ensures, length_rest s))))
+    sym (ap maybe_text (text-open _ _ _ (omega (arith, c.before.find_nul-count.ensures, length_rest s))))
 
-add-stop : tie.Need-overflow-add-stop
+add-stop : tie.Need-overflow_add-stop
 add-stop c = omega (arith, within c.before)
 
-sub-validate : tie.Need-overflow-sub-validate
+sub-validate : tie.Need-slice_bounds-validate-count
 sub-validate c = search rules
 
-part-validate-start : tie.Need-slice-bounds-validate-start
+part-validate-start : tie.Need-slice_bounds-validate-start
 part-validate-start c = search rules
 
-part-validate-end : tie.Need-slice-bounds-validate-end
+part-validate-end : tie.Need-slice_bounds-validate-end
 part-validate-end c = omega (arith, within c.before)
 
 validate-requires : tie.Need-validate-requires
 validate-requires c κs = search rules
 
-enum_told : tie.Need-enum-told
+enum_told : tie.Need-enum_told-1
 enum_told c = search rules
 
-cast-t17 : tie.Need-overflow-cast-t17
+cast-t17 : tie.Need-overflow_cast-result
 cast-t17 c = omega (arith, within c.before.before.before.before.before)
 
-enum-told-2 : tie.Need-enum-told-2
+enum-told-2 : tie.Need-enum_told-in-IllFormed
 enum-told-2 c = search rules
 
 -- there is a NUL before `end`
-closed : (c : tie.Else1) → (let s = c.before.before.before.before in until_nul (rest s) < length (rest s))
-closed c = omega (arith, within c.before, c.before.find-nul.ensures, length_rest c.before.before.before.before)
+closed : (c : tie.Else-count-end) → (let s = c.before.before.before.before in until_nul (rest s) < length (rest s))
+closed c = omega (arith, within c.before, c.before.find_nul-count.ensures, length_rest c.before.before.before.before)
 
 -- `validate` was shown the bytes before it
 shown :
@@ -85,25 +85,25 @@ shown :
     c.validate.result ≡ utf8_of (part s.args.payload.now s.args.at (until_nul (rest s))))
 shown c =
     let s = c.before.before.before.before.before.before in
-    let f = c.before.before.before.find-nul in
+    let f = c.before.before.before.find_nul-count in
     let e : s.args.at + f.result - s.args.at ≡ until_nul (rest s) = omega (arith, f.ensures) in
     c.validate.ensures ∙ ap (λ (n : ℕ). utf8_of (part s.args.payload.now s.args.at n)) e
 
-returns-2 : tie.Need-returns-2
+returns-2 : tie.Need-returns-in-WellFormed
 returns-2 c =
     let v = c.before.before in
-    let formed = well-formed _ (sym (shown v) ∙ c.enum_told.given.1) in
-    ap (λ (n : ℕ). Text (record { 0 = n })) v.before.before.before.find-nul.ensures ∙
+    let formed = well-formed _ (sym (shown v) ∙ c.enum_told-1.given.1) in
+    ap (λ (n : ℕ). Text (record { 0 = n })) v.before.before.before.find_nul-count.ensures ∙
     sym (ap maybe_text (text-well-formed _ _ _ (closed v.before.before) formed))
 
-returns-3 : tie.Need-returns-3
+returns-3 : tie.Need-returns-in-IllFormed
 returns-3 c =
     let v = c.before.before in
-    let ill = not-well-formed _ _ (sym (shown v) ∙ c.enum-told2.given.1) in
+    let ill = not-well-formed _ _ (sym (shown v) ∙ c.enum_told-in-IllFormed-1.given.1) in
     sym (ap maybe_text (text-ill-formed _ _ _ (closed v.before.before) ill))
 
-pub check-any-pair-text-spec : {M : Type 1} → statement M
-check-any-pair-text-spec =
+pub check_any_pair_text_spec : {M : Type 1} → statement M
+check_any_pair_text_spec =
     tie.close
     (tie.spec
     sub-find-nul

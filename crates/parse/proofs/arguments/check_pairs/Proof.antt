@@ -15,57 +15,57 @@ use Rattle.parse.proofs.arguments.check_pairs.Statement.{statement}
 use Rattle.parse.proofs.PairCount.{pairs-ended, pairs-leftover, pairs-more, pairs-refused}
 use Rattle.parse.proofs.arguments.check_pairs.Tie as tie
 
-abbrev invariant-loop : tie.invariant-loop
+abbrev invariant-loop : tie.invariant-loop-done
 invariant-loop payload count start end at₀ done₀ at done =
     (at ≤ end)
     × (done ≤ count)
     × (counted (pairs count payload start end) ≡ add done (counted (pairs (count - done) payload at end)))
 
-abbrev decreases-loop : tie.decreases-loop
+abbrev decreases-loop : tie.decreases-loop-done
 decreases-loop payload count start end at₀ done₀ at done = count - done
 
-loop-holds : tie.Need-loop-init invariant-loop decreases-loop
+loop-holds : tie.Need-loop-done-init invariant-loop decreases-loop
 loop-holds c = (omega arith, omega arith, rw sub-zero (sym (add_none _)))
 
-check-pair-requires : tie.Need-check-pair-requires invariant-loop decreases-loop
+check-pair-requires : tie.Need-check_pair-requires invariant-loop decreases-loop
 check-pair-requires c κs = omega arith
 
-enum-known-refusal : tie.Need-enum-known-refusal invariant-loop decreases-loop
+enum-known-refusal : tie.Need-enum_known-refusal invariant-loop decreases-loop
 enum-known-refusal c = search rules
 
 -- in a turn there is a pair to come
 turn :
-    (c : tie.In-loop invariant-loop decreases-loop) →
+    (c : tie.In-loop-done invariant-loop decreases-loop) →
     (let a = c.before.before.before.args in
-    let l = c.before.loop in
+    let l = c.before.loop-done in
     counted (pairs a.count a.payload.now a.start a.end)
     ≡ add l.done (counted (pairs (suc (a.count - (l.done + 1))) a.payload.now l.at a.end)))
 turn c =
     let a = c.before.before.before.args in
-    let l = c.before.loop in
+    let l = c.before.loop-done in
     let more : a.count - l.done ≡ suc (a.count - (l.done + 1)) = omega arith in
     rw more at l.invariant.2
 
-returns : tie.Need-returns invariant-loop decreases-loop
+returns : tie.Need-returns-in-Refused invariant-loop decreases-loop
 returns c =
-    let refused = place-refused after_pair _ _ (sym c.before.before.before.check-pair.ensures ∙ c.before.refusal.given.1) in
+    let refused = place-refused after_pair _ _ (sym c.before.before.before.check_pair.ensures ∙ c.before.refusal-1.given.1) in
     sym (turn c.before.before.before.before ∙ ap (add _) (pairs-refused _ _ _ _ refused))
 
-enum-known-next : tie.Need-enum-known-next invariant-loop decreases-loop
+enum-known-next : tie.Need-enum_known-next invariant-loop decreases-loop
 enum-known-next c = search rules
 
-add_done : tie.Need-overflow-add-done invariant-loop decreases-loop
+add_done : tie.Need-overflow_add-done invariant-loop decreases-loop
 add_done c = omega arith
 
-loop-less : tie.Need-loop-smaller invariant-loop decreases-loop
+loop-less : tie.Need-loop-done-smaller invariant-loop decreases-loop
 loop-less c = omega arith
 
-loop-again : tie.Need-loop-preserved invariant-loop decreases-loop
+loop-again : tie.Need-loop-done-preserved invariant-loop decreases-loop
 loop-again c =
     let i = c.before.before.before.before in
     let a = i.before.before.before.args in
-    let here = pair a.payload.now i.before.loop.at a.end in
-    let found = place_found after_pair here c.before.next.given.0.0 (sym c.before.before.before.check-pair.ensures ∙ c.before.next.given.1) in (
+    let here = pair a.payload.now i.before.loop-done.at a.end in
+    let found = place_found after_pair here c.before.next-1.given.0.0 (sym c.before.before.before.check_pair.ensures ∙ c.before.next-1.given.1) in (
       omega (arith, (pair-good _ _ _ found.0 found.1).1, found.2),
       omega arith,
       rw (← found.2) (turn i ∙ pairs-more _ _ _ _ _ found.0 found.1),
@@ -73,25 +73,25 @@ loop-again c =
 
 -- after the last turn all pairs are done
 done :
-    (c : tie.After-loop invariant-loop decreases-loop) →
+    (c : tie.After-loop-done invariant-loop decreases-loop) →
     (let a = c.before.before.before.args in
     counted (pairs a.count a.payload.now a.start a.end)
-    ≡ add a.count (counted (pairs 0 a.payload.now c.before.loop.at a.end)))
+    ≡ add a.count (counted (pairs 0 a.payload.now c.before.loop-done.at a.end)))
 done c =
     let a = c.before.before.before.args in
-    let l = c.before.loop in
+    let l = c.before.loop-done in
     let none : a.count - l.done ≡ 0 = omega arith in
     let all : l.done ≡ a.count = omega arith in
     rw (none, all) at l.invariant.2
 
-returns-2 : tie.Need-returns-2 invariant-loop decreases-loop
+returns-2 : tie.Need-returns-then-at-end invariant-loop decreases-loop
 returns-2 c = sym (done c.before ∙ ap (add _) (pairs-ended _ _ _ (omega arith)) ∙ ap Rows (add-zero _))
 
-returns-3 : tie.Need-returns-3 invariant-loop decreases-loop
+returns-3 : tie.Need-returns-else-at-end invariant-loop decreases-loop
 returns-3 c = sym (done c.before ∙ ap (add _) (pairs-leftover _ _ _ (λ e. omega arith)))
 
-pub check-pairs-spec : {M : Type 1} → statement M
-check-pairs-spec =
+pub check_pairs_spec : {M : Type 1} → statement M
+check_pairs_spec =
     tie.close
     (tie.spec
     invariant-loop

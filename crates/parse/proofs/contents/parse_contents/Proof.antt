@@ -23,7 +23,7 @@ use Rattle.layout.proofs.TextCheck.{passed, not-passed}
 use Rattle.parse.proofs.contents.parse_contents.Tie as tie
 
 -- past the first three tests the definition goes on to the frame, and the frame's check is that of the definition
-module _ (s : tie.After-check-framed) where
+module _ (s : tie.After-check_framed) where
   abbrev payload : List ℕ
   payload = s.before.before.before.before.before.before.before.before.before.before.before.args.payload.now
 
@@ -34,99 +34,99 @@ module _ (s : tie.After-check-framed) where
   size = s.before.before.before.before.before.before.before.before.before.before.before.args.size
 
   -- the compression that was found is that of the number on the wire
-  known : (u16_at payload (at + 14) ≤ 1) × (checked_compression (u16_at payload (at + 14)) ≡ s.before.before.before.compression.given.0.0)
+  known : (u16_at payload (at + 14) ≤ 1) × (checked_compression (u16_at payload (at + 14)) ≡ s.before.before.before.compression-1.given.0.0)
   known =
       let n = s.before.before.before.before.before in
-      known-compression _ _ (ap compression (sym n.before.read-u162.ensures) ∙ sym n.from-u16.ensures ∙ s.before.before.before.compression.given.1)
+      known-compression _ _ (ap compression (sym n.before.read_u16-number.ensures) ∙ sym n.from_u16.ensures ∙ s.before.before.before.compression-1.given.1)
 
   rest : parse_contents payload at size ≡ then (framed payload at size 28 (u32_at payload (at + 16))) (λ _. parse_stored (checked_compression (u16_at payload (at + 14))) payload at)
   rest =
       let n = s.before.before.before.before.before.before in
-      contents-rest payload at size (omega arith) (sym n.before.before.read-u16.ensures ∙ n.before.if2.left) known.0
+      contents-rest payload at size (omega arith) (sym n.before.before.read_u16.ensures ∙ n.before.if-read_u16-ne0.left) known.0
 
-  framed_is : verdict (framed payload at size 28 (u32_at payload (at + 16))) ≡ s.check-framed.result
-  framed_is = ap (λ (b : ℕ). verdict (framed payload at size 28 b)) (sym s.before.read_u32.ensures) ∙ sym s.check-framed.ensures
+  framed_is : verdict (framed payload at size 28 (u32_at payload (at + 16))) ≡ s.check_framed.result
+  framed_is = ap (λ (b : ℕ). verdict (framed payload at size 28 b)) (sym s.before.read_u32-bytes.ensures) ∙ sym s.check_framed.ensures
 
   -- the stored bytes lie within the section
-  fits : s.check-framed.result ≡ Passed → 28 + u32_at payload (at + 16) ≤ size
+  fits : s.check_framed.result ≡ Passed → 28 + u32_at payload (at + 16) ≤ size
   fits e =
       omega
       (arith, (framed-good payload at size 28 (u32_at payload (at + 16)) (passed _ (framed_is ∙ e))).within)
 
-returns : tie.Need-returns
+returns : tie.Need-returns-then-size-lt-START
 returns c =
     let a = c.before.before.args in
-    sym (ap counted (contents-short a.payload.now a.at a.size c.if1.true))
+    sym (ap counted (contents-short a.payload.now a.at a.size c.if-size-lt-START.true))
 
-add-read-u16 : tie.Need-overflow-add-read-u16
+add-read-u16 : tie.Need-overflow_add-at
 add-read-u16 c = search rules
 
-read-u16-requires : tie.Need-read-u16-requires
+read-u16-requires : tie.Need-read_u16-requires
 read-u16-requires c κs = search rules
 
-returns-2 : tie.Need-returns-2
+returns-2 : tie.Need-returns-then-read_u16-ne0
 returns-2 c =
     let a = c.before.before.before.before.args in
-    sym (ap counted (contents-flag a.payload.now a.at a.size (omega arith) (λ e. c.if2.true (c.before.read-u16.ensures ∙ e))))
+    sym (ap counted (contents-flag a.payload.now a.at a.size (omega arith) (λ e. c.if-read_u16-ne0.true (c.before.read_u16.ensures ∙ e))))
 
-add-read-u16-2 : tie.Need-overflow-add-read-u16-2
+add-read-u16-2 : tie.Need-overflow_add-at-2
 add-read-u16-2 c = search rules
 
-read-u16-requires-2 : tie.Need-read-u16-requires-2
+read-u16-requires-2 : tie.Need-read_u16-number-requires
 read-u16-requires-2 c κs = search rules
 
-from-u16-requires : tie.Need-from-u16-requires
+from-u16-requires : tie.Need-from_u16-requires
 from-u16-requires c κs = search rules
 
-enum-known-compression : tie.Need-enum-known-compression
+enum-known-compression : tie.Need-enum_known-compression
 enum-known-compression c = search rules
 
-enum_told : tie.Need-enum-told
+enum_told : tie.Need-enum_told-1
 enum_told c = search rules
 
-returns-3 : tie.Need-returns-3
+returns-3 : tie.Need-returns-in_default
 returns-3 c =
     let n = c.before.before in
     let a = n.before.before.before.before.before.before.args in
     sym
     (ap counted
-    (contents-unknown a.payload.now a.at a.size (omega arith) (sym n.before.before.before.read-u16.ensures ∙ n.before.before.if2.false)
-    (unknown-number _ (ap compression (sym n.before.read-u162.ensures) ∙ sym n.from-u16.ensures ∙ c.enum_told.given.1))))
+    (contents-unknown a.payload.now a.at a.size (omega arith) (sym n.before.before.before.read_u16.ensures ∙ n.before.before.if-read_u16-ne0.false)
+    (unknown-number _ (ap compression (sym n.before.read_u16-number.ensures) ∙ sym n.from_u16.ensures ∙ c.enum_told-1.given.1))))
 
-add-read-u32 : tie.Need-overflow-add-read-u32
+add-read-u32 : tie.Need-overflow_add-at-3
 add-read-u32 c = search rules
 
-read-u32-requires : tie.Need-read-u32-requires
+read-u32-requires : tie.Need-read_u32-bytes-requires
 read-u32-requires c κs = search rules
 
-check-framed-requires : tie.Need-check-framed-requires
+check-framed-requires : tie.Need-check_framed-requires
 check-framed-requires c κs = search rules
 
-enum-known-refusal : tie.Need-enum-known-refusal
+enum-known-refusal : tie.Need-enum_known-refusal
 enum-known-refusal c = search rules
 
-enum-told-2 : tie.Need-enum-told-2
+enum-told-2 : tie.Need-enum_told-in-Passed
 enum-told-2 c = search rules
 
-check-stored-requires : tie.Need-check-stored-requires
+check-stored-requires : tie.Need-check_stored-requires
 check-stored-requires c κs =
     let s = c.before.before in
-    (s.before.read_u32.ensures, (omega (arith, fits s c.enum-told2.given.1, s.before.read_u32.ensures), omega arith))
+    (s.before.read_u32-bytes.ensures, (omega (arith, fits s c.enum_told-in-Passed-1.given.1, s.before.read_u32-bytes.ensures), omega arith))
 
-returns-4 : tie.Need-returns-4
+returns-4 : tie.Need-returns-in-Refused
 returns-4 c =
     let s = c.before.before.before in
-    sym (ap counted (rest s ∙ after-fault _ _ (not-passed _ _ (framed_is s ∙ c.before.refusal.given.1))))
+    sym (ap counted (rest s ∙ after-fault _ _ (not-passed _ _ (framed_is s ∙ c.before.refusal-1.given.1))))
 
-returns-5 : tie.Need-returns-5
+returns-5 : tie.Need-returns-in-Passed
 returns-5 c =
     let s = c.before.before.before in
-    c.check-stored.ensures
+    c.check_stored.ensures
     ∙ ap (λ (k : SourceCompression). counted (parse_stored k (payload s) (at s))) (sym (known s).1)
-    ∙ sym (ap counted (rest s ∙ after-good _ _ (passed _ (framed_is s ∙ c.before.enum-told2.given.1))))
+    ∙ sym (ap counted (rest s ∙ after-good _ _ (passed _ (framed_is s ∙ c.before.enum_told-in-Passed-1.given.1))))
 
-pub parse-contents-spec : {M : Type 1} → statement M
-parse-contents-spec =
+pub parse_contents_spec : {M : Type 1} → statement M
+parse_contents_spec =
     tie.close
     (tie.spec
     returns

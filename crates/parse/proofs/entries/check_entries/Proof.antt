@@ -16,78 +16,78 @@ use Rattle.parse.proofs.entries.check_entries.Statement.{statement}
 use Rattle.parse.proofs.EntryCount.{entries-turn, entries-stop}
 use Rattle.parse.proofs.entries.check_entries.Tie as tie
 
-abbrev invariant-loop : tie.invariant-loop
+abbrev invariant-loop : tie.invariant-loop-done
 invariant-loop payload header count start end at₀ done₀ at done =
     (at ≤ end)
     × (done ≤ count)
     × (counted (entries header content_row_at count payload start end) ≡ add done (counted (entries header content_row_at (count - done) payload at end)))
 
-abbrev decreases-loop : tie.decreases-loop
+abbrev decreases-loop : tie.decreases-loop-done
 decreases-loop payload header count start end at₀ done₀ at done = count - done
 
-loop-holds : tie.Need-loop-init invariant-loop decreases-loop
+loop-holds : tie.Need-loop-done-init invariant-loop decreases-loop
 loop-holds c =
     let whole : c.before.args.count - 0 ≡ c.before.args.count = omega arith in
     (omega arith, omega arith, rw whole (sym (add_none _)))
 
-check-entry-requires : tie.Need-check-entry-requires invariant-loop decreases-loop
+check-entry-requires : tie.Need-check_entry-requires invariant-loop decreases-loop
 check-entry-requires c κs = (omega arith, omega arith)
 
-enum-known-refusal : tie.Need-enum-known-refusal invariant-loop decreases-loop
+enum-known-refusal : tie.Need-enum_known-refusal invariant-loop decreases-loop
 enum-known-refusal c = search rules
 
 -- what the entry at the place comes to
 entered :
-    (c : tie.After-check-entry invariant-loop decreases-loop) → (
+    (c : tie.After-check_entry invariant-loop decreases-loop) → (
     let i = c.before.before in
     let s = i.before.before.args in
-    c.check-entry.result ≡ place_of (after_entry s.header i.loop.at) (entry s.header s.payload.now i.loop.at s.end))
-entered c = c.check-entry.ensures
+    c.check_entry.result ≡ place_of (after_entry s.header i.loop-done.at) (entry s.header s.payload.now i.loop-done.at s.end))
+entered c = c.check_entry.ensures
 
-returns : tie.Need-returns invariant-loop decreases-loop
+returns : tie.Need-returns-in-Refused invariant-loop decreases-loop
 returns c =
     let i = c.before.before.before.before.before in
     let s = i.before.before.args in
-    let step = entry s.header s.payload.now i.loop.at s.end in
-    let e = place-refused (after_entry s.header i.loop.at) step _ (sym (entered c.before.before.before) ∙ c.before.refusal.given.1) in
-    sym (i.loop.invariant.2 ∙ entries-stop _ _ _ content_row_at _ _ _ c.before.before.before.before.loop-test.true _ e)
+    let step = entry s.header s.payload.now i.loop-done.at s.end in
+    let e = place-refused (after_entry s.header i.loop-done.at) step _ (sym (entered c.before.before.before) ∙ c.before.refusal-1.given.1) in
+    sym (i.loop-done.invariant.2 ∙ entries-stop _ _ _ content_row_at _ _ _ c.before.before.before.before.loop-done-test.true _ e)
 
-enum-known-next : tie.Need-enum-known-next invariant-loop decreases-loop
+enum-known-next : tie.Need-enum_known-next invariant-loop decreases-loop
 enum-known-next c = search rules
 
-add_done : tie.Need-overflow-add-done invariant-loop decreases-loop
+add_done : tie.Need-overflow_add-done invariant-loop decreases-loop
 add_done c = omega arith
 
-loop-less : tie.Need-loop-smaller invariant-loop decreases-loop
+loop-less : tie.Need-loop-done-smaller invariant-loop decreases-loop
 loop-less c = omega arith
 
-loop-again : tie.Need-loop-preserved invariant-loop decreases-loop
+loop-again : tie.Need-loop-done-preserved invariant-loop decreases-loop
 loop-again c =
     let i = c.before.before.before.before.before in
     let s = i.before.before.args in
-    let step = entry s.header s.payload.now i.loop.at s.end in
-    let found = place_found (after_entry s.header i.loop.at) step _ (sym (entered c.before.before.before) ∙ c.before.next.given.1) in (
-      omega (arith, found.2, (entry-good s.header s.payload.now i.loop.at s.end found.0 found.1).within),
+    let step = entry s.header s.payload.now i.loop-done.at s.end in
+    let found = place_found (after_entry s.header i.loop-done.at) step _ (sym (entered c.before.before.before) ∙ c.before.next-1.given.1) in (
+      omega (arith, found.2, (entry-good s.header s.payload.now i.loop-done.at s.end found.0 found.1).within),
       omega arith,
-      i.loop.invariant.2 ∙ rw found.2 at (entries-turn _ _ _ content_row_at _ _ _ c.before.before.before.before.loop-test.true _ found.1),
+      i.loop-done.invariant.2 ∙ rw found.2 at (entries-turn _ _ _ content_row_at _ _ _ c.before.before.before.before.loop-done-test.true _ found.1),
     )
 
-returns-2 : tie.Need-returns-2 invariant-loop decreases-loop
+returns-2 : tie.Need-returns-then-at-end invariant-loop decreases-loop
 unfolding entries check
 returns-2 c =
-    let i = c.before.before.loop in
+    let i = c.before.before.loop-done in
     let none : c.before.before.before.before.args.count - i.done ≡ 0 = omega arith in
-    sym (i.invariant.2 ∙ rw (none, eq-eqb _ _ c.if1.true) (ap Rows (omega arith)))
+    sym (i.invariant.2 ∙ rw (none, eq-eqb _ _ c.if-at-end.true) (ap Rows (omega arith)))
 
-returns-3 : tie.Need-returns-3 invariant-loop decreases-loop
+returns-3 : tie.Need-returns-else-at-end invariant-loop decreases-loop
 unfolding entries check
 returns-3 c =
-    let i = c.before.before.loop in
+    let i = c.before.before.loop-done in
     let none : c.before.before.before.before.args.count - i.done ≡ 0 = omega arith in
-    sym (i.invariant.2 ∙ rw (none, ne_eqb _ _ c.if1.false))
+    sym (i.invariant.2 ∙ rw (none, ne_eqb _ _ c.if-at-end.false))
 
-pub check-entries-spec : {M : Type 1} → statement M
-check-entries-spec =
+pub check_entries_spec : {M : Type 1} → statement M
+check_entries_spec =
     tie.close
     (tie.spec
     invariant-loop

@@ -16,31 +16,31 @@ use Rattle.parse.proofs.entries.terminated_utf8.Statement.{statement}
 use Rattle.layout.proofs.TextCheck.{passed, not-passed}
 use Rattle.parse.proofs.entries.terminated_utf8.Tie as tie
 
-cast-end : tie.Need-overflow-cast-end
+cast-end : tie.Need-overflow_cast-end
 cast-end c = search rules
 
-add-end : tie.Need-overflow-add-end
+add-end : tie.Need-overflow_add-end
 add-end c = search rules
 
-shared-slice-read-if1 : tie.Need-shared-slice-read-if1
+shared-slice-read-if1 : tie.Need-bounds-payload-end
 shared-slice-read-if1 c = search rules
 
-returns : tie.Need-returns
+returns : tie.Need-returns-then-payload-end-ne0
 unfolding terminated_text check
 returns c =
     let n = c.before.before.before.before.args.text.0 in
     let length : wire_size n - 1 ≡ n = omega arith in
-    rw (length, ne_eqb _ 0 c.if1.true)
+    rw (length, ne_eqb _ 0 c.if-payload-end-ne0.true)
 
-check-text-requires : tie.Need-check-text-requires
+check-text-requires : tie.Need-check_text-requires
 check-text-requires c κs = search rules
 
-enum-known-refusal : tie.Need-enum-known-refusal
+enum-known-refusal : tie.Need-enum_known-refusal
 enum-known-refusal c = search rules
 
 -- what is left of the tests once the NUL is known to be there
 closed :
-    (c : tie.Else1) → (
+    (c : tie.Else-payload-end-ne0) → (
     let s = c.before.before.before.before.args in
     let p = s.payload.now in
     let n = s.text.0 in
@@ -53,31 +53,31 @@ unfolding terminated_text check
 closed c =
     let n = c.before.before.before.before.args.text.0 in
     let length : wire_size n - 1 ≡ n = omega arith in
-    rw (length, eq-eqb _ 0 c.if1.false)
+    rw (length, eq-eqb _ 0 c.if-payload-end-ne0.false)
 
-returns-2 : tie.Need-returns-2
+returns-2 : tie.Need-returns-in-Refused
 unfolding then
 returns-2 c =
     let s = c.before.before.before.before.before.before.before.before.args in
     let text = check_text s.payload.now s.at s.text.0 in
-    rw (closed c.before.before.before.before, not-passed text _ (sym c.before.before.before.check-text.ensures ∙ c.before.refusal.given.1))
+    rw (closed c.before.before.before.before, not-passed text _ (sym c.before.before.before.check_text.ensures ∙ c.before.refusal-1.given.1))
 
-enum_told : tie.Need-enum-told
+enum_told : tie.Need-enum_told-1
 enum_told c = search rules
 
-wire-size-requires : tie.Need-wire-size-requires
+wire-size-requires : tie.Need-wire_size-requires
 wire-size-requires c κs = search rules
 
-add-after : tie.Need-overflow-add-after
+add-after : tie.Need-overflow_add-after
 add-after c = search rules
 
-sub-zeros : tie.Need-overflow-sub-zeros
+sub-zeros : tie.Need-slice_bounds-zeros-count
 sub-zeros c = search rules
 
-part-zeros-start : tie.Need-slice-bounds-zeros-start
+part-zeros-start : tie.Need-slice_bounds-zeros-start
 part-zeros-start c = search rules
 
-part-zeros-end : tie.Need-slice-bounds-zeros-end
+part-zeros-end : tie.Need-slice_bounds-zeros-end
 part-zeros-end c = search rules
 
 zeros-requires : tie.Need-zeros-requires
@@ -95,21 +95,21 @@ texted c =
     let text = check_text s.payload.now s.at s.text.0 in
     rw (
       closed c.before.before.before.before.before.before.before,
-      passed text (sym c.before.before.before.before.before.before.check-text.ensures ∙ c.before.before.before.before.enum_told.given.1),
-      ← c.before.before.before.wire-size.ensures,
+      passed text (sym c.before.before.before.before.before.before.check_text.ensures ∙ c.before.before.before.before.enum_told-1.given.1),
+      ← c.before.before.before.wire_size.ensures,
       ← c.zeros.ensures,
     )
 
-returns-3 : tie.Need-returns-3
+returns-3 : tie.Need-returns-then-zeros
 unfolding check
-returns-3 c = rw (texted c.before, c.if2.true)
+returns-3 c = rw (texted c.before, c.if-zeros.true)
 
-returns-4 : tie.Need-returns-4
+returns-4 : tie.Need-returns-else-zeros
 unfolding check
-returns-4 c = rw (texted c.before, c.if2.false)
+returns-4 c = rw (texted c.before, c.if-zeros.false)
 
-pub terminated-utf8-spec : {M : Type 1} → statement M
-terminated-utf8-spec =
+pub terminated_utf8_spec : {M : Type 1} → statement M
+terminated_utf8_spec =
     tie.close
     (tie.spec
     cast-end

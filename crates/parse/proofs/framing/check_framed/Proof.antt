@@ -17,32 +17,32 @@ use Rattle.parse.proofs.framing.check_framed.Tie as tie
 align4-requires : tie.Need-align4-requires
 align4-requires c κs = search rules
 
-returns : tie.Need-returns
+returns : tie.Need-returns-then-size-align4
 unfolding framed check
 returns c =
     let s = c.before.before.before.args in
     rw (ne_eqb s.size (aligned (s.headers + s.bytes)) (λ e. omega arith))
 
-add-end : tie.Need-overflow-add-end
+add-end : tie.Need-overflow_add-end
 add-end c = search rules
 
-add-end-2 : tie.Need-overflow-add-end-2
+add-end-2 : tie.Need-overflow_add-end-2
 add-end-2 c = search rules
 
-add-next : tie.Need-overflow-add-next
+add-next : tie.Need-overflow_add-next
 add-next c = search rules
 
-sub-zeros : tie.Need-overflow-sub-zeros
+sub-zeros : tie.Need-slice_bounds-zeros-count
 sub-zeros c =
     let s = c.before.before.before.args in
     omega (arith, le-aligned (s.headers + s.bytes))
 
-part-zeros-start : tie.Need-slice-bounds-zeros-start
+part-zeros-start : tie.Need-slice_bounds-zeros-start
 part-zeros-start c =
     let s = c.before.before.before.args in
     omega (arith, le-aligned (s.headers + s.bytes))
 
-part-zeros-end : tie.Need-slice-bounds-zeros-end
+part-zeros-end : tie.Need-slice_bounds-zeros-end
 part-zeros-end c = search rules
 
 zeros-requires : tie.Need-zeros-requires
@@ -59,16 +59,16 @@ sized c =
     let count : s.at + s.size - (s.at + s.headers + s.bytes) ≡ padding (s.headers + s.bytes) = omega arith in
     rw (eq-eqb s.size (aligned (s.headers + s.bytes)) (omega arith), ← count, ← c.zeros.ensures)
 
-returns-2 : tie.Need-returns-2
+returns-2 : tie.Need-returns-then-zeros
 unfolding check
-returns-2 c = rw (sized c.before, c.if2.true)
+returns-2 c = rw (sized c.before, c.if-zeros.true)
 
-returns-3 : tie.Need-returns-3
+returns-3 : tie.Need-returns-else-zeros
 unfolding check
-returns-3 c = rw (sized c.before, c.if2.false)
+returns-3 c = rw (sized c.before, c.if-zeros.false)
 
-pub check-framed-spec : {M : Type 1} → statement M
-check-framed-spec =
+pub check_framed_spec : {M : Type 1} → statement M
+check_framed_spec =
     tie.close
     (tie.spec
     align4-requires

@@ -11,58 +11,58 @@ use Rattle.parse.proofs.source_info.parse_found.Statement.{statement}
 use Rattle.parse.proofs.source_info.parse_found.Tie as tie
 
 -- what is asked of what was found, where it is a section
-inside : (c : tie.After-known-told2) → (let s = c.before.before.before.before in InPayload s.args.payload.now (Found c.before.found2.given.0.0))
+inside : (c : tie.In-Found) → (let s = c.before.before.before.before in InPayload s.args.payload.now (Found c.before.found-in-Found-1.given.0.0))
 inside c =
     let s = c.before.before.before.before in
-    subst (InPayload s.args.payload.now) c.before.found2.given.1 s.requires.0
+    subst (InPayload s.args.payload.now) c.before.found-in-Found-1.given.1 s.requires.0
 
 -- the rows so far are added to the section's
-sum_is : (c : tie.After-parse-section) → (let s = c.before.before.before.before.before in add s.args.rows c.parse-section.result ≡ add s.args.rows (counted_found s.args.payload.now s.args.found))
+sum_is : (c : tie.After-parse_section) → (let s = c.before.before.before.before.before in add s.args.rows c.parse_section.result ≡ add s.args.rows (counted_found s.args.payload.now s.args.found))
 sum_is c =
     let s = c.before.before.before.before.before in
-    ap (add s.args.rows) (c.parse-section.ensures ∙ sym (ap (counted_found s.args.payload.now) c.before.before.found2.given.1))
+    ap (add s.args.rows) (c.parse_section.ensures ∙ sym (ap (counted_found s.args.payload.now) c.before.before.found-in-Found-1.given.1))
 
-enum-known-found : tie.Need-enum-known-found
+enum-known-found : tie.Need-enum_known-found
 enum-known-found c = search rules
 
-enum-known-found-2 : tie.Need-enum-known-found-2
+enum-known-found-2 : tie.Need-enum_known-found-in-Found-1
 enum-known-found-2 c = search rules
 
-parse-section-requires : tie.Need-parse-section-requires
+parse-section-requires : tie.Need-parse_section-requires
 parse-section-requires c κs =
     let s = c.before.before.before.before in
     ((inside c).1, s.requires.1)
 
-enum-known-refusal : tie.Need-enum-known-refusal
+enum-known-refusal : tie.Need-enum_known-refusal
 enum-known-refusal c = search rules
 
-enum-known-more : tie.Need-enum-known-more
+enum-known-more : tie.Need-enum_known-more
 enum-known-more c = search rules
 
-add-t12 : tie.Need-overflow-add-t12
+add-t12 : tie.Need-overflow_add-result
 add-t12 c =
     let a = c.before.before.before in
     let s = a.before.before.before.before.before in
-    let half = half-of-size s.args.payload.now _ _ (inside a.before) (sym a.parse-section.ensures ∙ c.before.more.given.1) in
+    let half = half-of-size s.args.payload.now _ _ (inside a.before) (sym a.parse_section.ensures ∙ c.before.more-1.given.1) in
     omega (arith, half, (inside a.before).1, s.requires.1, s.requires.2)
 
-returns : tie.Need-returns
+returns : tie.Need-returns-in-Refused
 returns c =
     let s = c.before.before.before.before in
-    sym (ap (λ f. add s.args.rows (counted_found s.args.payload.now f)) c.before.found.given.1)
+    sym (ap (λ f. add s.args.rows (counted_found s.args.payload.now f)) c.before.found-1.given.1)
 
-returns-2 : tie.Need-returns-2
+returns-2 : tie.Need-returns-in-Refused-parse_section
 returns-2 c =
     let a = c.before.before.before in
-    sym (ap (add a.before.before.before.before.before.args.rows) c.before.refusal.given.1) ∙ sum_is a
+    sym (ap (add a.before.before.before.before.before.args.rows) c.before.refusal-1.given.1) ∙ sum_is a
 
-returns-3 : tie.Need-returns-3
+returns-3 : tie.Need-returns-in-Rows
 returns-3 c =
     let a = c.before.before.before in
-    sym (ap (add a.before.before.before.before.before.args.rows) c.before.more.given.1) ∙ sum_is a
+    sym (ap (add a.before.before.before.before.before.args.rows) c.before.more-1.given.1) ∙ sum_is a
 
-pub parse-found-spec : {M : Type 1} → statement M
-parse-found-spec =
+pub parse_found_spec : {M : Type 1} → statement M
+parse_found_spec =
     tie.close
     (tie.spec
     enum-known-found

@@ -5,26 +5,27 @@ use Rattle.format.specs.Parse.{parse_section}
 use Rattle.parse.proofs.source_info.parse_section.Statement.{statement}
 use Rattle.parse.proofs.source_info.parse_section.Tie as tie
 
-returns : tie.Need-returns
+returns : tie.Need-returns-in-SourceContents
 unfolding parse_section
-returns c = rw c.before.enum_told.given.1 c.parse-contents.ensures
+returns c = rw c.before.enum_told-1.given.1 c.parse_contents.ensures
 
-returns-2 : tie.Need-returns-2
+returns-2 : tie.Need-returns-in-SourceNames
 unfolding parse_section
-returns-2 c = rw c.before.enum-told2.given.1 c.parse-names.ensures
+returns-2 c = rw c.before.enum_told-in-SourceNames-1.given.1 c.parse_names.ensures
 
-returns-3 : tie.Need-returns-3
+returns-3 : tie.Need-returns-in-Arguments
 unfolding parse_section
-returns-3 c = rw c.before.enum-told3.given.1 c.parse-arguments.ensures
+returns-3 c = rw c.before.enum_told-in-Arguments-1.given.1 c.parse_arguments.ensures
 
-returns-4 : tie.Need-returns-4
+returns-4 : tie.Need-returns-in-Unknown
 unfolding parse_section
-returns-4 c = rw c.enum-told4.given.1
+returns-4 c = rw c.enum_told-in-Unknown-1.given.1
 
-pub parse-section-spec : {M : Type 1} → statement M
-parse-section-spec =
+pub parse_section_spec : {M : Type 1} → statement M
+parse_section_spec =
     tie.close
     (tie.spec
+
     (λ c. search rules)
     (λ c κs. search rules)
     (λ c. search rules)

@@ -409,9 +409,9 @@ parse-sections-meets {𝓤 = 𝓤} 𝓛 mem run 𝓣 k₀ k₁ k₂ k₃ =
     walk_Meets 𝓛 parse-sections.ended stayed (Goes-none_slice 𝓛 1 (0 ∷ []) tt (plain (λ _. u8)) yes, (Goes-none 𝓛 1 (λ _. u16) yes (λ κs x f. refl), tt)) (parse-sections.clauses 𝓛 mem run)
     (WpFn 𝓤 𝓛.H 𝓣.C 𝓣.Λ code.function) (WpFn-mono 𝓤 𝓛.H 𝓛.laws 𝓣 code.function) (parse-sections-walks 𝓛 mem run 𝓣 k₀ k₁ k₂ k₃)
 
-pub parse-sections-spec : {M : Type 1} → statement M
+pub parse_sections_spec : {M : Type 1} → statement M
 unfolding code.routine tables_of
-parse-sections-spec 𝓤 𝓛 𝓜 𝓡 =
+parse_sections_spec 𝓤 𝓛 𝓜 𝓡 =
     entered 𝓤 𝓛.H (triple_of 𝓛 parse-sections.signature (parse-sections.spec 𝓛 𝓜.mem 𝓡.run))
     (tables 𝓤 𝓛.H 𝓜 𝓡 code.env).C (tables 𝓤 𝓛.H 𝓜 𝓡 code.env).Λ #parse-sections code.function (code.unfolded 𝓤 𝓛.H 𝓜 𝓡)
     (parse-sections-meets 𝓛 𝓜.mem 𝓡.run (tables_of 𝓤 𝓛.H 𝓜 (tables 𝓤 𝓛.H 𝓜 𝓡 code.env))

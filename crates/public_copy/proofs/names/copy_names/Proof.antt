@@ -29,77 +29,77 @@ told c =
     let (framed, held, flags) = names-good p at (u32_at p at) found.0 found.1 in
     (framed.within, (held.rest, held.found))
 
-read-u32-requires : tie.Need-read-u32-requires
+read-u32-requires : tie.Need-read_u32-size-requires
 read-u32-requires c κs = search rules
 
-cast-size : tie.Need-overflow-cast-size
+cast-size : tie.Need-overflow_cast-size
 cast-size c = search rules
 
-add-read-u32 : tie.Need-overflow-add-read-u32
+add-read-u32 : tie.Need-overflow_add-at
 add-read-u32 c = search rules
 
-read-u32-requires-2 : tie.Need-read-u32-requires-2
+read-u32-requires-2 : tie.Need-read_u32-count-requires
 read-u32-requires-2 c κs = search rules
 
-add_start : tie.Need-overflow-add-start
+add_start : tie.Need-overflow_add-start
 add_start c = search rules
 
-add-read-u16 : tie.Need-overflow-add-read-u16
+add-read-u16 : tie.Need-overflow_add-at-2
 add-read-u16 c = search rules
 
-read-u16-requires : tie.Need-read-u16-requires
+read-u16-requires : tie.Need-read_u16-stored-requires
 read-u16-requires c κs = search rules
 
-cast-stored : tie.Need-overflow-cast-stored
+cast-stored : tie.Need-overflow_cast-stored
 cast-stored c = search rules
 
-add-end : tie.Need-overflow-add-end
+add-end : tie.Need-overflow_add-end
 add-end c = search rules
 
-add-entries : tie.Need-overflow-add-entries
+add-entries : tie.Need-overflow_add-entries
 add-entries c = search rules
 
-sub-write-bytes : tie.Need-overflow-sub-write-bytes
+sub-write-bytes : tie.Need-slice_bounds-write_bytes-count
 sub-write-bytes c = search rules
 
-part-write-bytes-start : tie.Need-slice-bounds-write-bytes-start
+part-write-bytes-start : tie.Need-slice_bounds-write_bytes-start
 part-write-bytes-start c = search rules
 
-part-write-bytes-end : tie.Need-slice-bounds-write-bytes-end
+part-write-bytes-end : tie.Need-slice_bounds-write_bytes-end
 part-write-bytes-end c = omega (arith, (told c.before.before.before.before.before.before).0)
 
-write-bytes-requires : tie.Need-write-bytes-requires
+write-bytes-requires : tie.Need-write_bytes-requires
 write-bytes-requires c κs = search rules
 
-copy-entries-requires : tie.Need-copy-entries-requires
+copy-entries-requires : tie.Need-copy_entries-requires
 copy-entries-requires c κs =
     let r = c.before.before.before.before.before.before in
     let s = r.before.before.before.before.before in
     let (within, (rest, found)) = told s in
-    (rw (r.before.read-u322.ensures, r.read-u16.ensures) (ap is_good found), (omega (arith, r.read-u16.ensures, within), (s.requires.1.1.0, omega (arith, s.requires.1.1.1))))
+    (rw (r.before.read_u32-count.ensures, r.read_u16-stored.ensures) (ap is_good found), (omega (arith, r.read_u16-stored.ensures, within), (s.requires.1.1.0, omega (arith, s.requires.1.1.1))))
 
-add-write-bytes : tie.Need-overflow-add-write-bytes
+add-write-bytes : tie.Need-overflow_add-entries-2
 add-write-bytes c = search rules
 
-add-write-bytes-2 : tie.Need-overflow-add-write-bytes-2
+add-write-bytes-2 : tie.Need-overflow_add-at-3
 add-write-bytes-2 c = search rules
 
-sub-write-bytes-2 : tie.Need-overflow-sub-write-bytes-2
-sub-write-bytes-2 c = omega (arith, (told c.before.before.before.before.before.before.before.before.before.before.before.before.before.before.before).0, c.before.before.before.before.before.before.before.before.before.before.read-u16.ensures, c.before.before.before.before.before.before.before.before.before.before.before.before.read_u32.ensures)
+sub-write-bytes-2 : tie.Need-slice_bounds-write_bytes-count-2
+sub-write-bytes-2 c = omega (arith, (told c.before.before.before.before.before.before.before.before.before.before.before.before.before.before.before).0, c.before.before.before.before.before.before.before.before.before.before.read_u16-stored.ensures, c.before.before.before.before.before.before.before.before.before.before.before.before.read_u32-size.ensures)
 
-part-write-bytes-start-2 : tie.Need-slice-bounds-write-bytes-start-2
-part-write-bytes-start-2 c = omega (arith, (told c.before.before.before.before.before.before.before.before.before.before.before.before.before.before.before).0, c.before.before.before.before.before.before.before.before.before.before.read-u16.ensures, c.before.before.before.before.before.before.before.before.before.before.before.before.read_u32.ensures)
+part-write-bytes-start-2 : tie.Need-slice_bounds-write_bytes-start-2
+part-write-bytes-start-2 c = omega (arith, (told c.before.before.before.before.before.before.before.before.before.before.before.before.before.before.before).0, c.before.before.before.before.before.before.before.before.before.before.read_u16-stored.ensures, c.before.before.before.before.before.before.before.before.before.before.before.before.read_u32-size.ensures)
 
-part-write-bytes-end-2 : tie.Need-slice-bounds-write-bytes-end-2
+part-write-bytes-end-2 : tie.Need-slice_bounds-write_bytes-end-2
 part-write-bytes-end-2 c = search rules
 
-write-bytes-requires-2 : tie.Need-write-bytes-requires-2
+write-bytes-requires-2 : tie.Need-write_bytes-requires-2
 write-bytes-requires-2 c κs = search rules
 
-add-result : tie.Need-overflow-add-result
+add-result : tie.Need-overflow_add-result
 add-result c = search rules
 
-same_length : tie.Need-same-length
+same_length : tie.Need-shape_of-output
 same_length c = search rules
 
 returns : tie.Need-returns
@@ -118,16 +118,16 @@ returns c =
     let first : at + 18 - at ≡ 18 = omega arith in
     let last : at + u32_at p at - (at + 18 + u16_at p (at + 16)) ≡ u32_at p at - (18 + u16_at p (at + 16)) = omega arith in
     let long = section-long p at s.requires.1.0 least rest found in (
-      omega (arith, size.read_u32.ensures, long),
+      omega (arith, size.read_u32-size.ensures, long),
       (
-        ap (λ (k : ℕ). a.to + k) size.read_u32.ensures,
-        rw (tail.write-bytes2.ensures, run.copy-entries.ensures, head.write_bytes.ensures, stored.read-u16.ensures, count.read-u322.ensures, size.read_u32.ensures, first, last)
+        ap (λ (k : ℕ). a.to + k) size.read_u32-size.ensures,
+        rw (tail.write_bytes-2.ensures, run.copy_entries.ensures, head.write_bytes.ensures, stored.read_u16-stored.ensures, count.read_u32-count.ensures, size.read_u32-size.ensures, first, last)
             (section-stored p at s.requires.1.0 least rest found a.output.now a.to),
       ),
     )
 
-pub copy-names-spec : {M : Type 1} → statement M
-copy-names-spec =
+pub copy_names_spec : {M : Type 1} → statement M
+copy_names_spec =
     tie.close
     (tie.spec
     read-u32-requires

@@ -30,7 +30,7 @@ section-told :
 section-told c e = rw e at c.requires.0
 
 -- the copy of contents is no longer than they are
-contents-told : (c : tie.After-enum-told) →
+contents-told : (c : tie.In-SourceContents) →
     (let a = c.before.before.before.before.args in
     let p = a.payload.now in
     length (contents_copy (compression_at p a.at) (u32_at p (a.at + 24))) ≤ u32_at p a.at)
@@ -39,105 +39,105 @@ contents-told c =
     let s = c.before.before.before.before in
     let p = s.args.payload.now in
     let at = s.args.at in
-    let found = is-good (parse_contents p at (u32_at p at)) (section-told s c.enum_told.given.1) in
+    let found = is-good (parse_contents p at (u32_at p at)) (section-told s c.enum_told-1.given.1) in
     contents-least p at (u32_at p at) found.0 found.1
 
 compression-told :
     (c : tie.After-checked) →
     (let a = c.before.before.before.before.before.before.before.args in c.checked.result ≡ compression_at a.payload.now a.at)
-compression-told c = c.checked.ensures ∙ ap checked_compression c.before.read-u16.ensures
+compression-told c = c.checked.ensures ∙ ap checked_compression c.before.read_u16.ensures
 
-enum_told : tie.Need-enum-told
+enum_told : tie.Need-enum_told-1
 enum_told c = search rules
 
-add-read-u16 : tie.Need-overflow-add-read-u16
+add-read-u16 : tie.Need-overflow_add-at
 add-read-u16 c = search rules
 
-read-u16-requires : tie.Need-read-u16-requires
+read-u16-requires : tie.Need-read_u16-requires
 read-u16-requires c κs = search rules
 
 checked-requires : tie.Need-checked-requires
 checked-requires c κs = search rules
 
-add-read-u32 : tie.Need-overflow-add-read-u32
+add-read-u32 : tie.Need-overflow_add-at-in-SourceContents
 add-read-u32 c = search rules
 
-read-u32-requires : tie.Need-read-u32-requires
+read-u32-requires : tie.Need-read_u32-requires
 read-u32-requires c κs = search rules
 
-write-contents-requires : tie.Need-write-contents-requires
+write-contents-requires : tie.Need-write_contents-requires
 write-contents-requires c κs =
     let t = c.before.before.before.before in
     let s = t.before.before.before.before in
     rw (c.read_u32.ensures, compression-told c.before) (omega (arith, contents-told t, s.requires.1))
 
-enum-told-2 : tie.Need-enum-told-2
+enum-told-2 : tie.Need-enum_told-in-SourceNames
 enum-told-2 c = search rules
 
-copy-names-requires : tie.Need-copy-names-requires
+copy-names-requires : tie.Need-copy_names-requires
 unfolding parse_section
 copy-names-requires c κs =
     let t = c.before in
     let s = t.before.before.before.before in
-    (section-told s t.enum-told2.given.1, s.requires.1)
+    (section-told s t.enum_told-in-SourceNames-1.given.1, s.requires.1)
 
-enum-told-3 : tie.Need-enum-told-3
+enum-told-3 : tie.Need-enum_told-in-Arguments
 enum-told-3 c = search rules
 
-read-u32-requires-2 : tie.Need-read-u32-requires-2
+read-u32-requires-2 : tie.Need-read_u32-size-requires
 read-u32-requires-2 c κs = search rules
 
-cast-size : tie.Need-overflow-cast-size
+cast-size : tie.Need-overflow_cast-size
 cast-size c = search rules
 
-add-write-bytes : tie.Need-overflow-add-write-bytes
+add-write-bytes : tie.Need-overflow_add-at-in-Arguments
 add-write-bytes c = search rules
 
-sub-write-bytes : tie.Need-overflow-sub-write-bytes
+sub-write-bytes : tie.Need-slice_bounds-write_bytes-count
 sub-write-bytes c = search rules
 
-part-write-bytes-start : tie.Need-slice-bounds-write-bytes-start
+part-write-bytes-start : tie.Need-slice_bounds-write_bytes-start
 part-write-bytes-start c = search rules
 
-part-write-bytes-end : tie.Need-slice-bounds-write-bytes-end
+part-write-bytes-end : tie.Need-slice_bounds-write_bytes-end
 part-write-bytes-end c = search rules
 
-write-bytes-requires : tie.Need-write-bytes-requires
+write-bytes-requires : tie.Need-write_bytes-requires
 write-bytes-requires c κs = search rules
 
-add-result : tie.Need-overflow-add-result
+add-result : tie.Need-overflow_add-result
 add-result c = search rules
 
-enum-told-4 : tie.Need-enum-told-4
+enum-told-4 : tie.Need-enum_told-in-Unknown
 enum-told-4 c = search rules
 
-same_length : tie.Need-same-length
+same_length : tie.Need-shape_of-output-in-SourceContents
 same_length c = search rules
 
-returns : tie.Need-returns
+returns : tie.Need-returns-in-SourceContents
 unfolding section_copy
 returns c =
     let w = c.before.before in
     let r = w.before in
     let t = r.before.before.before.before in
-    let (next, out) = rw (compression-told r.before, r.read_u32.ensures) at w.write-contents.ensures in
-    rw (t.enum_told.given.1, joined-one) (next, (omega (arith, contents-told t), out))
+    let (next, out) = rw (compression-told r.before, r.read_u32.ensures) at w.write_contents.ensures in
+    rw (t.enum_told-1.given.1, joined-one) (next, (omega (arith, contents-told t), out))
 
-same-length-2 : tie.Need-same-length-2
+same-length-2 : tie.Need-shape_of-output-in-SourceNames
 same-length-2 c = search rules
 
-returns-2 : tie.Need-returns-2
+returns-2 : tie.Need-returns-in-SourceNames
 unfolding section_copy
 returns-2 c =
     let n = c.before.before in
     let t = n.before.before in
-    let (next, (size, out)) = n.copy-names.ensures in
-    rw (t.enum-told2.given.1, joined-one) (next, (omega (arith, size), out))
+    let (next, (size, out)) = n.copy_names.ensures in
+    rw (t.enum_told-in-SourceNames-1.given.1, joined-one) (next, (omega (arith, size), out))
 
-same-length-3 : tie.Need-same-length-3
+same-length-3 : tie.Need-shape_of-output-in-Arguments
 same-length-3 c = search rules
 
-returns-3 : tie.Need-returns-3
+returns-3 : tie.Need-returns-in-Arguments
 unfolding section_copy
 returns-3 c =
     let w = c.before.before in
@@ -149,15 +149,15 @@ returns-3 c =
     let size = u32_at p a.at in
     let long : length (part p a.at size) ≡ size = length_part p a.at size s.requires.1.0 in
     let span : a.at + size - a.at ≡ size = omega arith in
-    rw (t.enum-told3.given.1, joined-one)
-    (omega (arith, r.read-u322.ensures, long), (omega (arith, r.read-u322.ensures), rw (w.write_bytes.ensures, r.read-u322.ensures, span)))
+    rw (t.enum_told-in-Arguments-1.given.1, joined-one)
+    (omega (arith, r.read_u32-size.ensures, long), (omega (arith, r.read_u32-size.ensures), rw (w.write_bytes.ensures, r.read_u32-size.ensures, span)))
 
-returns-4 : tie.Need-returns-4
+returns-4 : tie.Need-returns-in-Unknown
 unfolding section_copy flat_map
-returns-4 c = rw c.enum-told4.given.1 (omega arith, (omega arith, refl))
+returns-4 c = rw c.enum_told-in-Unknown-1.given.1 (omega arith, (omega arith, refl))
 
-pub copy-section-spec : {M : Type 1} → statement M
-copy-section-spec =
+pub copy_section_spec : {M : Type 1} → statement M
+copy_section_spec =
     tie.close
     (tie.spec
     enum_told

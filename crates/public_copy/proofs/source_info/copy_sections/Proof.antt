@@ -23,7 +23,7 @@ use Rattle.public_copy.proofs.CopyLaws.{copy-known, copies_from, copies-next, co
 use Rattle.public_copy.proofs.source_info.copy_sections.Statement.{statement}
 use Rattle.public_copy.proofs.source_info.copy_sections.Tie as tie
 
-abbrev invariant-loop : tie.invariant-loop
+abbrev invariant-loop : tie.invariant-loop-done
 invariant-loop payload count output₀ at₀ end₀ sections₀ done₀ output at end sections done =
     (done ≤ count)
     × (is_good (parse_sections (count - done) payload at) ≡ true)
@@ -34,10 +34,10 @@ invariant-loop payload count output₀ at₀ end₀ sections₀ done₀ output a
     × Left output₀ 8 (copies_from payload count 8) output end (copies_from payload (count - done) at)
     × (length output ≡ length output₀)
 
-abbrev decreases-loop : tie.decreases-loop
+abbrev decreases-loop : tie.decreases-loop-done
 decreases-loop payload count output₀ at₀ end₀ sections₀ done₀ output at end sections done = count - done
 
-loop-holds : tie.Need-loop-init invariant-loop decreases-loop
+loop-holds : tie.Need-loop-done-init invariant-loop decreases-loop
 loop-holds c =
     let s = c.before.before in
     (omega arith, rw sub-zero s.requires.0, omega arith, s.requires.1.0, omega arith, rw sub-zero (zero-add _), left-all (rw sub-zero), refl)
@@ -49,66 +49,66 @@ record Turn (p : List ℕ) (at left : ℕ) : Type 0 where
   rest : is_good (parse_sections left p (at + u32_at p at)) ≡ true
 
 turn :
-    (c : tie.In-loop invariant-loop decreases-loop) →
+    (c : tie.In-loop-done invariant-loop decreases-loop) →
     (let i = c.before in
     let a = i.before.before.before.args in
-    Turn a.payload.now i.loop.at (a.count - (i.loop.done + 1)))
+    Turn a.payload.now i.loop-done.at (a.count - (i.loop-done.done + 1)))
 turn c =
     let i = c.before in
     let a = i.before.before.before.args in
     let p = a.payload.now in
-    let left = a.count - (i.loop.done + 1) in
-    let found = is-good (parse_sections (suc left) p i.loop.at) (rw (one_fewer a.count i.loop.done c.loop-test.true) at i.loop.invariant.1) in
-    let told = sections-good p i.loop.at left found.0 found.1 in
+    let left = a.count - (i.loop-done.done + 1) in
+    let found = is-good (parse_sections (suc left) p i.loop-done.at) (rw (one_fewer a.count i.loop-done.done c.loop-done-test.true) at i.loop-done.invariant.1) in
+    let told = sections-good p i.loop-done.at left found.0 found.1 in
     record { within = told.within; this = ap is_good told.first_good; rest = ap is_good told.rest-good }
 
 -- the kind of the section at a turn's place
 kind-told :
-    (c : tie.After-from-u16 invariant-loop decreases-loop) →
+    (c : tie.After-from_u16-kind invariant-loop decreases-loop) →
     (let i = c.before.before.before in
     let a = i.before.before.before.args in
-    c.from-u16.result ≡ kind_at a.payload.now i.loop.at)
-kind-told c = c.from-u16.ensures ∙ ap section_type c.before.read-u16.ensures
+    c.from_u16-kind.result ≡ kind_at a.payload.now i.loop-done.at)
+kind-told c = c.from_u16-kind.ensures ∙ ap section_type c.before.read_u16.ensures
 
-add-read-u16 : tie.Need-overflow-add-read-u16 invariant-loop decreases-loop
+add-read-u16 : tie.Need-overflow_add-at invariant-loop decreases-loop
 add-read-u16 c = omega (arith, turn c)
 
-read-u16-requires : tie.Need-read-u16-requires invariant-loop decreases-loop
+read-u16-requires : tie.Need-read_u16-requires invariant-loop decreases-loop
 read-u16-requires c κs = search rules
 
-from-u16-requires : tie.Need-from-u16-requires invariant-loop decreases-loop
+from-u16-requires : tie.Need-from_u16-kind-requires invariant-loop decreases-loop
 from-u16-requires c κs = search rules
 
-copy-section-requires : tie.Need-copy-section-requires invariant-loop decreases-loop
+copy-section-requires : tie.Need-copy_section-end-requires invariant-loop decreases-loop
 copy-section-requires c κs =
     let f = c.before in
     let inside = f.before.before in
     let t = turn inside in
     let i = inside.before in
-    rw (kind-told f) (t.this, (t.within, (i.before.before.before.requires.1.1, i.loop.invariant.2)))
+    rw (kind-told f) (t.this, (t.within, (i.before.before.before.requires.1.1, i.loop-done.invariant.2)))
 
-known-requires : tie.Need-known-requires invariant-loop decreases-loop
+known-requires : tie.Need-known-sections-requires invariant-loop decreases-loop
 known-requires c κs = search rules
 
-add-sections : tie.Need-overflow-add-sections invariant-loop decreases-loop
-add-sections c = omega (arith, c.known.ensures, known-most c.before.before.before.before.before.from-u16.result)
+add-sections : tie.Need-overflow_add-sections invariant-loop decreases-loop
+add-sections c = omega (arith, c.known-sections.ensures, known-most c.before.before.before.before.before.from_u16-kind.result)
 
-read-u32-requires : tie.Need-read-u32-requires invariant-loop decreases-loop
+read-u32-requires : tie.Need-read_u32-requires invariant-loop decreases-loop
 read-u32-requires c κs = search rules
 
-cast-at : tie.Need-overflow-cast-at invariant-loop decreases-loop
+cast-at : tie.Need-overflow_cast-at invariant-loop decreases-loop
 cast-at c = search rules
 
-add_at : tie.Need-overflow-add-at invariant-loop decreases-loop
+add_at : tie.Need-overflow_add-at-in-loop-done invariant-loop decreases-loop
 add_at c = omega (arith, turn c.before.before.before.before.before.before.before.before, c.read_u32.ensures)
 
-add_done : tie.Need-overflow-add-done invariant-loop decreases-loop
+add_done : tie.Need-overflow_add-done invariant-loop decreases-loop
 add_done c = search rules
 
-loop-less : tie.Need-loop-smaller invariant-loop decreases-loop
+loop-less : tie.Need-loop-done-smaller invariant-loop decreases-loop
 loop-less c = search rules
 
-loop-again : tie.Need-loop-preserved invariant-loop decreases-loop
+loop-again : tie.Need-loop-done-preserved invariant-loop decreases-loop
 loop-again c =
     let k = c.before in
     let w = k.before.before.before in
@@ -117,27 +117,27 @@ loop-again c =
     let i = inside.before in
     let a = i.before.before.before.args in
     let p = a.payload.now in
-    let at = i.loop.at in
-    let more = inside.loop-test.true in
+    let at = i.loop-done.at in
+    let more = inside.loop-done-test.true in
     let t = turn inside in
-    let (next, (most, out)) = rw (kind-told f) at w.copy-section.ensures in
-    rw (c.read_u32.ensures, k.known.ensures ∙ ap known (kind-told f)) (
+    let (next, (most, out)) = rw (kind-told f) at w.copy_section-end.ensures in
+    rw (c.read_u32.ensures, k.known-sections.ensures ∙ ap known (kind-told f)) (
       omega arith,
       t.rest,
       omega (arith, most),
       t.within,
       omega (arith, known-most (kind_at p at)),
-      omega (arith, copy-known p (kind_at p at) at, count_next p (copy_at p) a.count i.loop.done more at),
-      left-next (joined (copy_at p at)) _ (copies-next p a.count i.loop.done at more) i.loop.invariant.6 next out,
-      w.copy-section.auto.1.1.1.0 ∙ i.loop.invariant.7,
+      omega (arith, copy-known p (kind_at p at) at, count_next p (copy_at p) a.count i.loop-done.done more at),
+      left-next (joined (copy_at p at)) _ (copies-next p a.count i.loop-done.done at more) i.loop-done.invariant.6 next out,
+      w.copy_section-end.auto.1.1.1.0 ∙ i.loop-done.invariant.7,
     )
 
-same_length : tie.Need-same-length invariant-loop decreases-loop
+same_length : tie.Need-shape_of-output invariant-loop decreases-loop
 same_length c = search rules
 
 returns : tie.Need-returns invariant-loop decreases-loop
 returns c =
-    let i = c.before.loop in
+    let i = c.before.loop-done in
     let s = c.before.before.before.before in
     let a = s.args in
     let p = a.payload.now in
@@ -145,8 +145,8 @@ returns c =
     let (end, stored) = left-none (copies-end p a.count i.done i.at ended) i.invariant.6 in
     (end, (omega (arith, s.requires.1), (omega (arith, count-end p (copy_at p) a.count i.done ended i.at), stored)))
 
-pub copy-sections-spec : {M : Type 1} → statement M
-copy-sections-spec =
+pub copy_sections_spec : {M : Type 1} → statement M
+copy_sections_spec =
     tie.close
     (tie.spec
     invariant-loop

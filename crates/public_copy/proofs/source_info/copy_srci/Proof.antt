@@ -29,27 +29,27 @@ whole c =
     let (small, good-sections, least, long, flags) = parse-good p found.0 found.1 in
     (ap is_good good-sections, (least, small))
 
-read-u16-requires : tie.Need-read-u16-requires
+read-u16-requires : tie.Need-read_u16-requires
 read-u16-requires c κs = search rules
 
-copy-sections-requires : tie.Need-copy-sections-requires
+copy-sections-requires : tie.Need-copy_sections-copied-requires
 copy-sections-requires c κs =
     let (found, bounds) = whole c.before.before.before.before in
-    (rw c.before.read-u16.ensures found, bounds)
+    (rw c.before.read_u16.ensures found, bounds)
 
-cast-size : tie.Need-overflow-cast-size
+cast-size : tie.Need-overflow_cast-size
 cast-size c = search rules
 
-write-u32-requires : tie.Need-write-u32-requires
+write-u32-requires : tie.Need-write_u32-requires
 write-u32-requires c κs = search rules
 
-write-u16-requires : tie.Need-write-u16-requires
+write-u16-requires : tie.Need-write_u16-requires
 write-u16-requires c κs = search rules
 
-write-u16-requires-2 : tie.Need-write-u16-requires-2
+write-u16-requires-2 : tie.Need-write_u16-requires-2
 write-u16-requires-2 c κs = search rules
 
-same_length : tie.Need-same-length
+same_length : tie.Need-shape_of-output
 same_length c = search rules
 
 returns : tie.Need-returns
@@ -63,14 +63,14 @@ returns c =
     let a = number.before.before.before.args in
     let p = a.payload.now in
     let sections = taken_from p (copy_at p) (u16_at p 6) 8 in
-    let (end, (most, (many, out))) = rw number.read-u16.ensures at made.copy-sections.ensures in (
+    let (end, (most, (many, out))) = rw number.read_u16.ensures at made.copy_sections-copied.ensures in (
       end ∙ sym (copy-long sections),
-      rw (third.write-u162.ensures, second.write-u16.ensures, first.write-u32.ensures, out, many, end)
+      rw (third.write_u16-2.ensures, second.write_u16.ensures, first.write_u32.ensures, out, many, end)
           (header-stored (8 + length (joined sections)) (length sections) (joined sections) a.output.now),
     )
 
-pub copy-srci-spec : {M : Type 1} → statement M
-copy-srci-spec =
+pub copy_srci_spec : {M : Type 1} → statement M
+copy_srci_spec =
     tie.close
     (tie.spec
     read-u16-requires

@@ -3,20 +3,21 @@ use borrow.Author.Rules.{rules}
 use Rattle.read.proofs.fill.entry_row.Statement.{statement}
 use Rattle.read.proofs.fill.entry_row.Tie as tie
 
-returns : tie.Need-returns
+returns : tie.Need-returns-in-Content
 returns c =
     let told = c.before in
-    rw (told.enum_told.given.1, c.content.ensures, told.before.before.entry-text.ensures)
+    rw (told.enum_told-1.given.1, c.content.ensures, told.before.before.entry_text-text.ensures)
 
-returns-2 : tie.Need-returns-2
+returns-2 : tie.Need-returns-in-Name
 returns-2 c =
     let told = c.before.before in
-    rw (told.enum-told2.given.1, c.name.ensures, told.before.before.entry-text.ensures, c.before.read_u32.ensures)
+    rw (told.enum_told-in-Name-1.given.1, c.name.ensures, told.before.before.entry_text-text.ensures, c.before.read_u32.ensures)
 
-pub entry-row-spec : {M : Type 1} → statement M
-entry-row-spec =
+pub entry_row_spec : {M : Type 1} → statement M
+entry_row_spec =
     tie.close
     (tie.spec
+
     (λ c κs. search rules)
     (λ c. search rules)
     (λ c. search rules)

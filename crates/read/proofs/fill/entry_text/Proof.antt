@@ -7,38 +7,38 @@ use Rattle.wire.proofs.LengthLaws.{wire_size-terminated, no_text}
 use Rattle.read.proofs.fill.entry_text.Statement.{statement}
 use Rattle.read.proofs.fill.entry_text.Tie as tie
 
-add-read-u32 : tie.Need-overflow-add-read-u32
+add-read-u32 : tie.Need-overflow_add-at
 add-read-u32 c = search rules
 
-read-u32-requires : tie.Need-read-u32-requires
+read-u32-requires : tie.Need-read_u32-requires
 read-u32-requires c κs = search rules
 
-cast-t7 : tie.Need-overflow-cast-t7
+cast-t7 : tie.Need-overflow_cast-read_u32
 cast-t7 c = search rules
 
-text-length-requires : tie.Need-text-length-requires
+text-length-requires : tie.Need-text_length-requires
 text-length-requires c κs = search rules
 
-enum-known-text : tie.Need-enum-known-text
+enum-known-text : tie.Need-enum_known-text
 enum-known-text c = search rules
 
-enum_told : tie.Need-enum-told
+enum_told : tie.Need-enum_told-1
 enum_told c = search rules
 
-returns : tie.Need-returns
+returns : tie.Need-returns-in-Text
 returns c =
     let call = c.before.before.before in
-    let size = wire_size-terminated _ _ (sym call.text-length.ensures ∙ c.before.text.given.1) in
+    let size = wire_size-terminated _ _ (sym call.text_length.ensures ∙ c.before.text-1.given.1) in
     omega (arith, size, call.before.read_u32.ensures)
 
-returns-2 : tie.Need-returns-2
+returns-2 : tie.Need-returns-in-Nothing
 returns-2 c =
     let call = c.before.before in
-    let size = no_text _ (omega arith) (sym call.text-length.ensures ∙ c.enum_told.given.1) in
+    let size = no_text _ (omega arith) (sym call.text_length.ensures ∙ c.enum_told-1.given.1) in
     omega (arith, size, call.before.read_u32.ensures)
 
-pub entry-text-spec : {M : Type 1} → statement M
-entry-text-spec =
+pub entry_text_spec : {M : Type 1} → statement M
+entry_text_spec =
     tie.close
     (tie.spec
     add-read-u32

@@ -20,11 +20,11 @@ compression-told :
     (c : tie.After-checked) (t : SourceCompression) →
     c.checked.result ≡ t →
     (let a = c.before.before.before.before.args in compression_at a.payload.now a.at ≡ t)
-compression-told c t e = ap checked_compression (sym c.before.read-u16.ensures) ∙ sym c.checked.ensures ∙ e
+compression-told c t e = ap checked_compression (sym c.before.read_u16.ensures) ∙ sym c.checked.ensures ∙ e
 
 -- the entries of plain contents end within the section
 plain-within :
-    (c : tie.After-enum-told) →
+    (c : tie.In-None) →
     (let a = c.before.before.before.before.before.before.args in
     entries_end a.payload.now (u32_at a.payload.now (a.at + 24)) (a.at + 28) ≤ a.at + u32_at a.payload.now a.at)
 plain-within c =
@@ -32,22 +32,22 @@ plain-within c =
     let start = section.before.before.before.before in
     let a = start.args in
     let whole = is-good _ start.requires.0 in
-    contents-within a.payload.now a.at _ whole.0 whole.1 (compression-told section None c.enum_told.given.1)
+    contents-within a.payload.now a.at _ whole.0 whole.1 (compression-told section None c.enum_told-1.given.1)
 
-fill-entries-requires : tie.Need-fill-entries-requires
+fill-entries-requires : tie.Need-fill_entries-requires
 fill-entries-requires c κs =
     let count = c.before in
     let plain = count.before.before.before.before.before.before.before in
     let start = plain.before.before.before.before.before.before in
     let a = start.args in
-    rw count.read-u322.ensures (omega (
+    rw count.read_u32-count.ensures (omega (
       arith,
       plain-within plain,
       entries-forward a.payload.now (u32_at a.payload.now (a.at + 24)) (a.at + 28),
       start.requires.1,
     ))
 
-returns : tie.Need-returns
+returns : tie.Need-returns-in-None
 unfolding store_rows walk_contents
 returns c =
     let entries = c.before.before in
@@ -56,23 +56,24 @@ returns c =
     let plain = head.before.before.before.before in
     let section = plain.before.before in
     let a = section.before.before.before.before.args in
-    rw (compression-told section None plain.enum_told.given.1) (
-      omega (arith, count.read-u322.ensures, length-walk_entries a.payload.now (content_at a.payload.now) (u32_at a.payload.now (a.at + 24)) (a.at + 28)),
-      rw (entries.fill-entries.ensures, count.read-u322.ensures, head.store.ensures, head.before.before.plain-contents.ensures, head.before.before.before.read_u32.ensures),
+    rw (compression-told section None plain.enum_told-1.given.1) (
+      omega (arith, count.read_u32-count.ensures, length-walk_entries a.payload.now (content_at a.payload.now) (u32_at a.payload.now (a.at + 24)) (a.at + 28)),
+      rw (entries.fill_entries.ensures, count.read_u32-count.ensures, head.store.ensures, head.before.before.plain_contents.ensures, head.before.before.before.read_u32.ensures),
     )
 
-returns-2 : tie.Need-returns-2
+returns-2 : tie.Need-returns-in-Zlib
 unfolding store_rows walk_contents
 returns-2 c =
     let head = c.before.before in
     let packed = head.before.before.before in
-    rw (compression-told packed.before.before Zlib packed.enum-told2.given.1) (omega arith, rw (head.store2.ensures, head.before.before.packed-row.ensures))
+    rw (compression-told packed.before.before Zlib packed.enum_told-in-Zlib-1.given.1) (omega arith, rw (head.store-in-Zlib.ensures, head.before.before.packed_row.ensures))
 
 -- Besides: no sum wraps, a length keeps its place, and what the callees ask of the numbers holds.
-pub fill-contents-spec : {M : Type 1} → statement M
-fill-contents-spec =
+pub fill_contents_spec : {M : Type 1} → statement M
+fill_contents_spec =
     tie.close
     (tie.spec
+
     (λ c. search rules)
     (λ c κs. search rules)
     (λ c κs. search rules)

@@ -14,68 +14,68 @@ use Rattle.read.specs.Store.{store_rows}
 use Rattle.read.proofs.StoreSteps.{entries-store-step, entries-store-done}
 use Rattle.read.proofs.fill.fill_entries.Tie as tie
 
-abbrev invariant-loop : tie.invariant-loop
+abbrev invariant-loop : tie.invariant-loop-done
 invariant-loop payload kind count start rows₀ index at₀ done₀ rows at done =
     (done ≤ count)
     × (entries_end payload (count - done) at ≤ length payload)
     × (store_rows rows (index + done) (walk_entries payload (entry_row payload kind) (count - done) at) ≡ store_rows rows₀ index (walk_entries payload (entry_row payload kind) count start))
     × (length rows ≡ length rows₀)
 
-abbrev decreases-loop : tie.decreases-loop
+abbrev decreases-loop : tie.decreases-loop-done
 decreases-loop payload kind count start rows₀ index at₀ done₀ rows at done = count - done
 
-loop-holds : tie.Need-loop-init invariant-loop decreases-loop
+loop-holds : tie.Need-loop-done-init invariant-loop decreases-loop
 loop-holds c = simp (sub-zero, add-zero) (search rules)
 
 -- the place is within the payload
-inside : (c : tie.At-loop invariant-loop decreases-loop) → (let a = c.before.before.before.args in c.loop.at ≤ length a.payload.now)
+inside : (c : tie.At-loop-done invariant-loop decreases-loop) → (let a = c.before.before.before.args in c.loop-done.at ≤ length a.payload.now)
 inside c =
     let a = c.before.before.before.args in
-    omega (arith, entries-forward a.payload.now (a.count - c.loop.done) c.loop.at)
+    omega (arith, entries-forward a.payload.now (a.count - c.loop-done.done) c.loop-done.at)
 
 -- what is left after a turn ends within the payload too
 next :
-    (c : tie.After-read-u32 invariant-loop decreases-loop) →
+    (c : tie.After-read_u32 invariant-loop decreases-loop) →
     (let i = c.before.before.before.before.before.before.before in
     let a = i.before.before.before.args in
-    entries_end a.payload.now (a.count - (i.loop.done + 1)) (i.loop.at + c.read_u32.result) ≤ length a.payload.now)
+    entries_end a.payload.now (a.count - (i.loop-done.done + 1)) (i.loop-done.at + c.read_u32.result) ≤ length a.payload.now)
 next c =
     let turn = c.before.before.before.before.before.before in
     let i = turn.before in
     let a = i.before.before.before.args in
-    rw (c.read_u32.ensures, ← entries-end-step a.payload.now a.count i.loop.done turn.loop-test.true i.loop.at) i.loop.invariant.1
+    rw (c.read_u32.ensures, ← entries-end-step a.payload.now a.count i.loop-done.done turn.loop-done-test.true i.loop-done.at) i.loop-done.invariant.1
 
-entry-row-requires : tie.Need-entry-row-requires invariant-loop decreases-loop
+entry-row-requires : tie.Need-entry_row-requires invariant-loop decreases-loop
 entry-row-requires c κs = (inside c.before, c.before.before.before.before.requires.1.0)
 
-cast-store : tie.Need-overflow-cast-store invariant-loop decreases-loop
+cast-store : tie.Need-overflow_cast-done invariant-loop decreases-loop
 cast-store c = search rules
 
-add-store : tie.Need-overflow-add-store invariant-loop decreases-loop
+add-store : tie.Need-overflow_add-index invariant-loop decreases-loop
 add-store c = omega arith
 
 store-requires : tie.Need-store-requires invariant-loop decreases-loop
 store-requires c κs = search rules
 
-read-u32-requires : tie.Need-read-u32-requires invariant-loop decreases-loop
+read-u32-requires : tie.Need-read_u32-requires invariant-loop decreases-loop
 read-u32-requires c κs = search rules
 
-cast-at : tie.Need-overflow-cast-at invariant-loop decreases-loop
+cast-at : tie.Need-overflow_cast-at invariant-loop decreases-loop
 cast-at c = search rules
 
-add_at : tie.Need-overflow-add-at invariant-loop decreases-loop
+add_at : tie.Need-overflow_add-at invariant-loop decreases-loop
 add_at c =
     let i = c.before.before.before.before.before.before.before in
     let a = i.before.before.before.args in
-    omega (arith, next c, entries-forward a.payload.now (a.count - (i.loop.done + 1)) (i.loop.at + c.read_u32.result))
+    omega (arith, next c, entries-forward a.payload.now (a.count - (i.loop-done.done + 1)) (i.loop-done.at + c.read_u32.result))
 
-add_done : tie.Need-overflow-add-done invariant-loop decreases-loop
+add_done : tie.Need-overflow_add-done invariant-loop decreases-loop
 add_done c = omega arith
 
-loop-less : tie.Need-loop-smaller invariant-loop decreases-loop
+loop-less : tie.Need-loop-done-smaller invariant-loop decreases-loop
 loop-less c = omega arith
 
-loop-again : tie.Need-loop-preserved invariant-loop decreases-loop
+loop-again : tie.Need-loop-done-preserved invariant-loop decreases-loop
 loop-again c =
     let store = c.before.before.before in
     let turn = store.before.before.before in
@@ -83,21 +83,21 @@ loop-again c =
     let a = i.before.before.before.args in (
       omega arith,
       next c,
-      cc (entries-store-step a.payload.now a.count i.loop.done turn.loop-test.true (entry_row a.payload.now a.kind) i.loop.at a.index i.loop.rows),
-      store.store.auto.1.0 ∙ i.loop.invariant.3,
+      cc (entries-store-step a.payload.now a.count i.loop-done.done turn.loop-done-test.true (entry_row a.payload.now a.kind) i.loop-done.at a.index i.loop-done.rows),
+      store.store.auto.1.0 ∙ i.loop-done.invariant.3,
     )
 
-same_length : tie.Need-same-length invariant-loop decreases-loop
-same_length c = c.before.loop.invariant.3
+same_length : tie.Need-shape_of-rows invariant-loop decreases-loop
+same_length c = c.before.loop-done.invariant.3
 
 returns : tie.Need-returns invariant-loop decreases-loop
 returns c =
     let i = c.before in
     let a = i.before.before.before.args in
-    sym (entries-store-done a.payload.now a.count i.loop.done c.loop-test.false (entry_row a.payload.now a.kind) i.loop.at (a.index + i.loop.done) i.loop.rows) ∙ i.loop.invariant.2
+    sym (entries-store-done a.payload.now a.count i.loop-done.done c.loop-done-test.false (entry_row a.payload.now a.kind) i.loop-done.at (a.index + i.loop-done.done) i.loop-done.rows) ∙ i.loop-done.invariant.2
 
-pub fill-entries-spec : {M : Type 1} → statement M
-fill-entries-spec =
+pub fill_entries_spec : {M : Type 1} → statement M
+fill_entries_spec =
     tie.close
     (tie.spec
     invariant-loop

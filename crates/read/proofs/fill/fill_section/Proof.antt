@@ -21,45 +21,45 @@ use Rattle.read.proofs.fill.fill_section.Tie as tie
 
 -- the section's kind, and the good section of that kind
 kind-told :
-    (c : tie.After-from-u16) (t : SourceInfoSectionType) →
-    c.from-u16.result ≡ t →
+    (c : tie.After-from_u16) (t : SourceInfoSectionType) →
+    c.from_u16.result ≡ t →
     (let a = c.before.before.before.before.args in kind_at a.payload.now a.at ≡ t)
-kind-told c t e = ap section_type (sym c.before.read-u16.ensures) ∙ sym c.from-u16.ensures ∙ e
+kind-told c t e = ap section_type (sym c.before.read_u16.ensures) ∙ sym c.from_u16.ensures ∙ e
 
 section-told :
-    (c : tie.After-from-u16) (t : SourceInfoSectionType) →
-    c.from-u16.result ≡ t →
+    (c : tie.After-from_u16) (t : SourceInfoSectionType) →
+    c.from_u16.result ≡ t →
     (let a = c.before.before.before.before.args in
     (rs : List Row) × (parse_section t a.payload.now a.at (u32_at a.payload.now a.at) ≡ good rs))
 section-told c t e = is-good _ (rw (kind-told c t e) at c.before.before.before.before.requires.0)
 
-fill-contents-requires : tie.Need-fill-contents-requires
+fill-contents-requires : tie.Need-fill_contents-requires
 unfolding parse_section
 fill-contents-requires c κs =
     let told = c.before in
     let section = told.before.before in
     let pre = section.before.before.before.before.requires in
-    (rw (kind-told section SourceContents told.enum_told.given.1) at pre.0, pre.1.1)
+    (rw (kind-told section SourceContents told.enum_told-1.given.1) at pre.0, pre.1.1)
 
 -- the entries of names, and the pairs of arguments, end within the section
 names-within :
-    (c : tie.After-enum-told2) →
+    (c : tie.In-SourceNames) →
     (let a = c.before.before.before.before.before.before.args in
     entries_end a.payload.now (u32_at a.payload.now (a.at + 12)) (a.at + 18) ≤ a.at + u32_at a.payload.now a.at)
 unfolding parse_section
 names-within c =
     let section = c.before.before in
     let a = section.before.before.before.before.args in
-    let whole = section-told section SourceNames c.enum-told2.given.1 in
+    let whole = section-told section SourceNames c.enum_told-in-SourceNames-1.given.1 in
     (names-walk a.payload.now a.at (u32_at a.payload.now a.at) whole.0 whole.1).1
 
-fill-entries-requires : tie.Need-fill-entries-requires
+fill-entries-requires : tie.Need-fill_entries-requires
 fill-entries-requires c κs =
     let count = c.before in
     let told = count.before.before.before.before.before.before in
     let start = told.before.before.before.before.before.before in
     let a = start.args in
-    rw count.read_u32.ensures (omega (
+    rw count.read_u32-count.ensures (omega (
       arith,
       names-within told,
       entries-forward a.payload.now (u32_at a.payload.now (a.at + 12)) (a.at + 18),
@@ -67,71 +67,72 @@ fill-entries-requires c κs =
     ))
 
 arguments-within :
-    (c : tie.After-enum-told3) →
+    (c : tie.In-Arguments) →
     (let a = c.before.before.before.before.before.before.args in
     pairs_end a.payload.now (u32_at a.payload.now (a.at + 16)) (a.at + 20) ≤ a.at + u32_at a.payload.now a.at)
 unfolding parse_section
 arguments-within c =
     let section = c.before.before in
     let a = section.before.before.before.before.args in
-    let whole = section-told section Arguments c.enum-told3.given.1 in
+    let whole = section-told section Arguments c.enum_told-in-Arguments-1.given.1 in
     (arguments-walk a.payload.now a.at (u32_at a.payload.now a.at) whole.0 whole.1).1
 
-fill-pairs-requires : tie.Need-fill-pairs-requires
+fill-pairs-requires : tie.Need-fill_pairs-requires
 fill-pairs-requires c κs =
     let count = c.before in
     let told = count.before.before.before.before.before.before in
     let start = told.before.before.before.before.before.before in
     let a = start.args in
-    rw count.read-u322.ensures (omega (
+    rw count.read_u32-count-in-Arguments.ensures (omega (
       arith,
       arguments-within told,
       pairs-forward a.payload.now (u32_at a.payload.now (a.at + 16)) (a.at + 20),
       start.requires.1,
     ))
 
-returns : tie.Need-returns
+returns : tie.Need-returns-in-SourceContents
 unfolding walk_section
 returns c =
     let call = c.before.before in
     let told = call.before.before in
-    rw (kind-told told.before.before SourceContents told.enum_told.given.1) call.fill-contents.ensures
+    rw (kind-told told.before.before SourceContents told.enum_told-1.given.1) call.fill_contents.ensures
 
-returns-2 : tie.Need-returns-2
+returns-2 : tie.Need-returns-in-SourceNames
 unfolding store_rows walk_section
 returns-2 c =
     let count = c.before.before.before.before in
     let told = count.before.before.before.before.before.before in
     let section = told.before.before in
     let a = section.before.before.before.before.args in
-    rw (kind-told section SourceNames told.enum-told2.given.1) (
-      omega (arith, count.read_u32.ensures, length-walk_entries a.payload.now (name_at a.payload.now) (u32_at a.payload.now (a.at + 12)) (a.at + 18)),
-      rw (c.before.before.fill-entries.ensures, count.read_u32.ensures, count.before.before.before.store.ensures, count.before.before.before.before.before.names.ensures),
+    rw (kind-told section SourceNames told.enum_told-in-SourceNames-1.given.1) (
+      omega (arith, count.read_u32-count.ensures, length-walk_entries a.payload.now (name_at a.payload.now) (u32_at a.payload.now (a.at + 12)) (a.at + 18)),
+      rw (c.before.before.fill_entries.ensures, count.read_u32-count.ensures, count.before.before.before.store.ensures, count.before.before.before.before.before.names.ensures),
     )
 
-returns-3 : tie.Need-returns-3
+returns-3 : tie.Need-returns-in-Arguments
 unfolding store_rows walk_section
 returns-3 c =
     let count = c.before.before.before.before in
     let told = count.before.before.before.before.before.before in
     let section = told.before.before in
     let a = section.before.before.before.before.args in
-    rw (kind-told section Arguments told.enum-told3.given.1) (
-      omega (arith, count.read-u322.ensures, length-walk_pairs a.payload.now (u32_at a.payload.now (a.at + 16)) (a.at + 20)),
-      rw (c.before.before.fill-pairs.ensures, count.read-u322.ensures, count.before.before.before.store2.ensures, count.before.before.before.before.before.arguments.ensures),
+    rw (kind-told section Arguments told.enum_told-in-Arguments-1.given.1) (
+      omega (arith, count.read_u32-count-in-Arguments.ensures, length-walk_pairs a.payload.now (u32_at a.payload.now (a.at + 16)) (a.at + 20)),
+      rw (c.before.before.fill_pairs.ensures, count.read_u32-count-in-Arguments.ensures, count.before.before.before.store-in-Arguments.ensures, count.before.before.before.before.before.arguments.ensures),
     )
 
-returns-4 : tie.Need-returns-4
+returns-4 : tie.Need-returns-in-Unknown
 unfolding store_rows walk_section
 returns-4 c =
     let head = c.before.before in
     let told = head.before.before.before.before in
-    rw (kind-told told.before.before _ told.kind.given.1) (omega arith, rw (head.store3.ensures, head.before.before.unknown-row.ensures))
+    rw (kind-told told.before.before _ told.kind-1.given.1) (omega arith, rw (head.store-in-Unknown.ensures, head.before.before.unknown_row.ensures))
 
-pub fill-section-spec : {M : Type 1} → statement M
-fill-section-spec =
+pub fill_section_spec : {M : Type 1} → statement M
+fill_section_spec =
     tie.close
     (tie.spec
+
     (λ c. search rules)
     (λ c κs. search rules)
     (λ c κs. search rules)

@@ -6,10 +6,11 @@ use Rattle.read.proofs.fill.packed_row.Tie as tie
 returns : tie.Need-returns
 returns c = cc
 
-pub packed-row-spec : {M : Type 1} → statement M
-packed-row-spec =
+pub packed_row_spec : {M : Type 1} → statement M
+packed_row_spec =
     tie.close
     (tie.spec
+
     (λ c. search rules)
     (λ c κs. search rules)
     (λ c. search rules)

@@ -6,10 +6,11 @@ use Rattle.read.proofs.fill.unknown_row.Tie as tie
 returns : tie.Need-returns
 returns c = cc
 
-pub unknown-row-spec : {M : Type 1} → statement M
-unknown-row-spec =
+pub unknown_row_spec : {M : Type 1} → statement M
+unknown_row_spec =
     tie.close
     (tie.spec
+
     (λ c. search rules)
     (λ c. search rules)
     (λ c κs. search rules)

@@ -10,18 +10,18 @@ use Rattle.rows.proofs.Measured.{measured-is-written}
 use Rattle.rows.proofs.pass.measure.Statement.{statement}
 use Rattle.rows.proofs.pass.measure.Tie as tie
 
-returns : tie.Need-returns
+returns : tie.Need-returns-then-rows-ne0
 unfolding written_table check
-returns c = rw (ne_eqb _ _ c.if1.true)
+returns c = rw (ne_eqb _ _ c.if-rows-ne0.true)
 
-measure-rows-requires : tie.Need-measure-rows-requires
+measure-rows-requires : tie.Need-measure_rows-requires
 measure-rows-requires c κs = search rules
 
-returns-2 : tie.Need-returns-2
+returns-2 : tie.Need-returns
 unfolding written_table check
 returns-2 c =
     let a = c.before.before.before.before.before.args in
-    rw (eq-eqb _ _ c.before.if1.false) (c.measure-rows.ensures ∙ measured-is-written a.payload.now a.edit.now (rows_of a.rows.now))
+    rw (eq-eqb _ _ c.before.if-rows-ne0.false) (c.measure_rows.ensures ∙ measured-is-written a.payload.now a.edit.now (rows_of a.rows.now))
 
-pub measure-spec : {M : Type 1} → statement M
-measure-spec = tie.close (tie.spec returns measure-rows-requires returns-2)
+pub measure_spec : {M : Type 1} → statement M
+measure_spec = tie.close (tie.spec returns measure-rows-requires returns-2)

@@ -21,5 +21,5 @@ returns : tie.Need-returns
 unfolding all_zero
 returns c = simp (first-zero, and_assoc, and-true)
 
-pub all-zero-spec : {M : Type 1} → statement M
-all-zero-spec = tie.close (tie.spec returns)
+pub all_zero_spec : {M : Type 1} → statement M
+all_zero_spec = tie.close (tie.spec returns)

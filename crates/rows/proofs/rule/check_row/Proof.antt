@@ -6,32 +6,32 @@ use Rattle.format.specs.Rules.{obeys, check_row}
 use Rattle.rows.proofs.rule.check_row.Statement.{statement}
 use Rattle.rows.proofs.rule.check_row.Tie as tie
 
-from-u32-requires : tie.Need-from-u32-requires
+from-u32-requires : tie.Need-from_u32-tag-requires
 from-u32-requires c κs = search rules
 
-tag-rule-requires : tie.Need-tag-rule-requires
+tag-rule-requires : tie.Need-tag_rule-requires
 tag-rule-requires c κs = search rules
 
-spans-inside-requires : tie.Need-spans-inside-requires
+spans-inside-requires : tie.Need-spans_inside-requires
 spans-inside-requires c κs = search rules
 
-check-texts-requires : tie.Need-check-texts-requires
+check-texts-requires : tie.Need-check_texts-requires
 check-texts-requires c κs = search rules
 
-returns : tie.Need-returns
+returns : tie.Need-returns-then-tag_rule-spans_inside
 unfolding check_row obeys check
 returns c =
     let s = c.before.before in
-    rw (← s.before.before.from-u32.ensures, ← s.before.tag-rule.ensures, ← s.spans-inside.ensures, c.before.if1.true) c.check-texts.ensures
+    rw (← s.before.before.from_u32-tag.ensures, ← s.before.tag_rule.ensures, ← s.spans_inside.ensures, c.before.if-tag_rule-spans_inside.true) c.check_texts.ensures
 
-returns-2 : tie.Need-returns-2
+returns-2 : tie.Need-returns-else-tag_rule-spans_inside
 unfolding check_row obeys check
 returns-2 c =
     let s = c.before in
-    rw (← s.before.before.from-u32.ensures, ← s.before.tag-rule.ensures, ← s.spans-inside.ensures, c.if1.false)
+    rw (← s.before.before.from_u32-tag.ensures, ← s.before.tag_rule.ensures, ← s.spans_inside.ensures, c.if-tag_rule-spans_inside.false)
 
-pub check-row-spec : {M : Type 1} → statement M
-check-row-spec =
+pub check_row_spec : {M : Type 1} → statement M
+check_row_spec =
     tie.close
     (tie.spec
     from-u32-requires

@@ -7,19 +7,19 @@ use Rattle.table.proofs.Tags.{past-arms}
 use Rattle.rows.proofs.rule.is_inside.Statement.{statement}
 use Rattle.rows.proofs.rule.is_inside.Tie as tie
 
-add-end : tie.Need-overflow-add-end
+add-end : tie.Need-overflow_add-end
 add-end c = search rules
 
-returns : tie.Need-returns
+returns : tie.Need-returns-in-0
 unfolding side_of
-returns c = rw c.match.keys1
+returns c = rw c.in-0.is
 
-returns-2 : tie.Need-returns-2
+returns-2 : tie.Need-returns-in-1
 unfolding side_of
-returns-2 c = rw c.match.keys2
+returns-2 c = rw c.in-1.is
 
-returns-3 : tie.Need-returns-3
-returns-3 c = let side = c.before.args.side in rw (lt-leb side 1 (past-arms 2 side c.match.rest))
+returns-3 : tie.Need-returns-in_default
+returns-3 c = let side = c.before.args.side in rw (lt-leb side 1 (past-arms 2 side c.in_default.in_default-own.rest))
 
-pub is-inside-spec : {M : Type 1} → statement M
-is-inside-spec = tie.close (tie.spec add-end returns returns-2 returns-3)
+pub is_inside_spec : {M : Type 1} → statement M
+is_inside_spec = tie.close (tie.spec add-end returns returns-2 returns-3)

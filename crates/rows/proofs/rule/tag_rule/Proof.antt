@@ -6,46 +6,47 @@ use Rattle.format.specs.Rules.{tag_rule}
 use Rattle.rows.proofs.rule.tag_rule.Statement.{statement}
 use Rattle.rows.proofs.rule.tag_rule.Tie as tie
 
-returns : tie.Need-returns
+returns : tie.Need-returns-in-PlainContents
 unfolding tag_rule all_zero
-returns c = rw (c.all-zero.ensures, c.before.before.enum_told.given.1)
+returns c = rw (c.all_zero.ensures, c.before.before.enum_told-1.given.1)
 
-returns-2 : tie.Need-returns-2
+returns-2 : tie.Need-returns-in-PackedContents
 unfolding tag_rule
-returns-2 c = rw c.enum-told2.given.1
+returns-2 c = rw c.enum_told-in-PackedContents-1.given.1
 
-returns-3 : tie.Need-returns-3
+returns-3 : tie.Need-returns-in-Names
 unfolding tag_rule
-returns-3 c = rw (c.all-zero2.ensures, c.before.before.enum-told3.given.1)
+returns-3 c = rw (c.all_zero-in-Names.ensures, c.before.before.enum_told-in-Names-1.given.1)
 
-returns-4 : tie.Need-returns-4
+returns-4 : tie.Need-returns-in-Arguments
 unfolding tag_rule
-returns-4 c = rw (c.all-zero3.ensures, c.before.before.enum-told4.given.1)
+returns-4 c = rw (c.all_zero-in-Arguments.ensures, c.before.before.enum_told-in-Arguments-1.given.1)
 
-returns-5 : tie.Need-returns-5
+returns-5 : tie.Need-returns-in-Unknown
 unfolding tag_rule all_zero
-returns-5 c = rw (c.all-zero4.ensures, c.before.before.before.before.enum-told5.given.1)
+returns-5 c = rw (c.all_zero-in-Unknown.ensures, c.before.before.before.before.enum_told-in-Unknown-1.given.1)
 
-returns-6 : tie.Need-returns-6
+returns-6 : tie.Need-returns-in-Content
 unfolding tag_rule all_zero
-returns-6 c = rw (c.all-zero5.ensures, c.before.may-follow.ensures, c.before.before.enum-told6.given.1)
+returns-6 c = rw (c.all_zero-in-Content.ensures, c.before.may_follow.ensures, c.before.before.enum_told-in-Content-1.given.1)
 
-returns-7 : tie.Need-returns-7
+returns-7 : tie.Need-returns-in-Name
 unfolding tag_rule all_zero
-returns-7 c = rw (c.all-zero6.ensures, c.before.may-follow2.ensures, c.before.before.enum-told7.given.1)
+returns-7 c = rw (c.all_zero-in-Name.ensures, c.before.may_follow-in-Name.ensures, c.before.before.enum_told-in-Name-1.given.1)
 
-returns-8 : tie.Need-returns-8
+returns-8 : tie.Need-returns-in-Pair
 unfolding tag_rule all_zero
-returns-8 c = rw (c.all-zero7.ensures, c.before.may-follow3.ensures, c.before.before.enum-told8.given.1)
+returns-8 c = rw (c.all_zero-in-Pair.ensures, c.before.may_follow-in-Pair.ensures, c.before.before.enum_told-in-Pair-1.given.1)
 
-returns-9 : tie.Need-returns-9
+returns-9 : tie.Need-returns-in-None
 unfolding tag_rule
-returns-9 c = rw c.enum-told9.given.1
+returns-9 c = rw c.enum_told-in-None-1.given.1
 
-pub tag-rule-spec : {M : Type 1} → statement M
-tag-rule-spec =
+pub tag_rule_spec : {M : Type 1} → statement M
+tag_rule_spec =
     tie.close
     (tie.spec
+
     (λ c. search rules)
     (λ c κs. search rules)
     (λ c. search rules)

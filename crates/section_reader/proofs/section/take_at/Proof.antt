@@ -11,42 +11,42 @@ use Rattle.section_reader.proofs.Taken.{Header, section-found, section-refused, 
 use Rattle.section_reader.proofs.section.take_at.Statement.{statement}
 use Rattle.section_reader.proofs.section.take_at.Tie as tie
 
-section-at-requires : tie.Need-section-at-requires
+section-at-requires : tie.Need-section_at-section-requires
 section-at-requires c κs = search rules
 
-enum-known-section : tie.Need-enum-known-section
+enum-known-section : tie.Need-enum_known-section
 enum-known-section c = search rules
 
 -- the header of the section that was found
 header :
-    (c : tie.After-struct-known) → (
+    (c : tie.After-struct_known-1) → (
     let s = c.before.before.before.before.before.before.args in
-    Header s.payload.now s.at (frame s.payload.now s.at) c.before.before.section.given.0.0)
+    Header s.payload.now s.at (frame s.payload.now s.at) c.before.before.section-1.given.0.0)
 header c =
     let f = c.before.before in
     let s = c.before.before.before.before.before.before.args in
-    section-found s.payload.now s.at (frame s.payload.now s.at) _ (sym f.before.before.section-at.ensures ∙ f.section.given.1)
+    section-found s.payload.now s.at (frame s.payload.now s.at) _ (sym f.before.before.section_at-section.ensures ∙ f.section-1.given.1)
 
-add-next : tie.Need-overflow-add-next
+add-next : tie.Need-overflow_add-next
 add-next c =
     let s = c.before.before.before.before.before.before.args in
     omega (arith, (frame-good s.payload.now s.at _ (header c).sized).within)
 
-enum_told : tie.Need-enum-told
+enum_told : tie.Need-enum_told-1
 enum_told c = search rules
 
-returns : tie.Need-returns
+returns : tie.Need-returns-in-Found
 returns c =
     let s = c.before.before.before.before.before.before.args in
     let f = c.before.before in
-    taken-by-parts s.payload.now s.at _ _ (sym f.section.given.1 ∙ f.before.before.section-at.ensures) (sym (ap (place_after s.at) (header c).sized))
+    taken-by-parts s.payload.now s.at _ _ (sym f.section-1.given.1 ∙ f.before.before.section_at-section.ensures) (sym (ap (place_after s.at) (header c).sized))
 
-returns-2 : tie.Need-returns-2
+returns-2 : tie.Need-returns-in-Refused
 returns-2 c =
     let f = c.before.before in
     let s = f.before.before.args in
-    let refused = section-refused s.payload.now s.at (frame s.payload.now s.at) _ (sym f.section-at.ensures ∙ c.enum_told.given.1) in
-    taken-by-parts s.payload.now s.at _ _ f.section-at.ensures (sym (ap (place_after s.at) refused))
+    let refused = section-refused s.payload.now s.at (frame s.payload.now s.at) _ (sym f.section_at-section.ensures ∙ c.enum_told-1.given.1) in
+    taken-by-parts s.payload.now s.at _ _ f.section_at-section.ensures (sym (ap (place_after s.at) refused))
 
-pub take-at-spec : {M : Type 1} → statement M
-take-at-spec = tie.close (tie.spec section-at-requires enum-known-section add-next enum_told returns returns-2)
+pub take_at_spec : {M : Type 1} → statement M
+take_at_spec = tie.close (tie.spec section-at-requires enum-known-section add-next enum_told returns returns-2)

@@ -5,46 +5,47 @@ use Rattle.sizes.specs.Measure.{added}
 use Rattle.sizes.proofs.part.added_size.Statement.{statement}
 use Rattle.sizes.proofs.part.added_size.Tie as tie
 
-returns : tie.Need-returns
+returns : tie.Need-returns-in-Content
 unfolding added
-returns c = rw c.before.enum_told.given.1 (cc)
+returns c = rw c.before.enum_told-1.given.1 (cc)
 
-returns-2 : tie.Need-returns-2
+returns-2 : tie.Need-returns-in-Name
 unfolding added
-returns-2 c = rw c.before.enum-told2.given.1 (cc)
+returns-2 c = rw c.before.enum_told-in-Name-1.given.1 (cc)
 
-returns-3 : tie.Need-returns-3
+returns-3 : tie.Need-returns-in-Pair
 unfolding added
-returns-3 c = rw c.before.before.enum-told3.given.1 (cc)
+returns-3 c = rw c.before.before.enum_told-in-Pair-1.given.1 (cc)
 
-returns-4 : tie.Need-returns-4
+returns-4 : tie.Need-returns-in-PlainContents
 unfolding added
-returns-4 c = rw c.enum-told4.given.1
+returns-4 c = rw c.enum_told-in-PlainContents-1.given.1
 
-returns-5 : tie.Need-returns-5
+returns-5 : tie.Need-returns-in-PackedContents
 unfolding added
-returns-5 c = rw c.enum-told5.given.1
+returns-5 c = rw c.enum_told-in-PackedContents-1.given.1
 
-returns-6 : tie.Need-returns-6
+returns-6 : tie.Need-returns-in-Names
 unfolding added
-returns-6 c = rw c.enum-told6.given.1
+returns-6 c = rw c.enum_told-in-Names-1.given.1
 
-returns-7 : tie.Need-returns-7
+returns-7 : tie.Need-returns-in-Arguments
 unfolding added
-returns-7 c = rw c.enum-told7.given.1
+returns-7 c = rw c.enum_told-in-Arguments-1.given.1
 
-returns-8 : tie.Need-returns-8
+returns-8 : tie.Need-returns-in-Unknown
 unfolding added
-returns-8 c = rw c.enum-told8.given.1
+returns-8 c = rw c.enum_told-in-Unknown-1.given.1
 
-returns-9 : tie.Need-returns-9
+returns-9 : tie.Need-returns-in-None
 unfolding added
-returns-9 c = rw c.enum-told9.given.1
+returns-9 c = rw c.enum_told-in-None-1.given.1
 
-pub added-size-spec : {M : Type 1} → statement M
-added-size-spec =
+pub added_size_spec : {M : Type 1} → statement M
+added_size_spec =
     tie.close
     (tie.spec
+
     (λ c κs. search rules)
     (λ c. search rules)
     (λ c. search rules)

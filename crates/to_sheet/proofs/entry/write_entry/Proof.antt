@@ -33,12 +33,12 @@ content-long text = simp length-append
 
 -- the line, with the length that was read
 content-read :
-    (c : tie.After-enum-told) →
+    (c : tie.In-Content) →
     (let a = c.before.before.before.before.before.args in
-    line (entry_at a.payload.now a.kind a.at) ≡ content (part a.payload.now (a.at + 12) c.before.before.text-length.result.0))
+    line (entry_at a.payload.now a.kind a.at) ≡ content (part a.payload.now (a.at + 12) c.before.before.text_length-text.result.0))
 content-read c =
     let a = c.before.before.before.before.before.args in
-    rw (c.enum_told.given.1, c.before.before.text-length.ensures) (is-content a.payload.now a.at)
+    rw (c.enum_told-1.given.1, c.before.before.text_length-text.ensures) (is-content a.payload.now a.at)
 
 -- ---- a name
 
@@ -54,108 +54,96 @@ unfolding ascii
 name-long size text = simp length-append
 
 name-read :
-    (c : tie.After-read-u32) →
+    (c : tie.After-read_u32-size) →
     (let a = c.before.before.before.before.before.before.before.before.before.before.before.args in
-    line (entry_at a.payload.now a.kind a.at) ≡ name c.read_u32.result (part a.payload.now (a.at + 16) c.before.before.before.before.before.before.before.before.text-length.result.0))
+    line (entry_at a.payload.now a.kind a.at) ≡ name c.read_u32-size.result (part a.payload.now (a.at + 16) c.before.before.before.before.before.before.before.before.text_length-text.result.0))
 name-read c =
     let a = c.before.before.before.before.before.before.before.before.before.before.before.args in
-    rw (c.before.before.before.before.before.before.enum-told2.given.1, c.before.before.before.before.before.before.before.before.text-length.ensures, c.read_u32.ensures) (is_name a.payload.now a.at)
+    rw (c.before.before.before.before.before.before.enum_told-in-Name-1.given.1, c.before.before.before.before.before.before.before.before.text_length-text.ensures, c.read_u32-size.ensures) (is_name a.payload.now a.at)
 
-text-length-requires : tie.Need-text-length-requires
+text-length-requires : tie.Need-text_length-text-requires
 text-length-requires c κs = search rules
 
-enum_told : tie.Need-enum-told
+enum_told : tie.Need-enum_told-1
 enum_told c = search rules
 
-slice-aggregate-write-bytes : tie.Need-slice-aggregate-write-bytes
-slice-aggregate-write-bytes c = search rules
-
-write-bytes-requires : tie.Need-write-bytes-requires
+write-bytes-requires : tie.Need-write_bytes-requires
 write-bytes-requires c κs = search rules
 
-add-write-text : tie.Need-overflow-add-write-text
+add-write-text : tie.Need-overflow_add-to
 add-write-text c = search rules
 
-cast-write-text : tie.Need-overflow-cast-write-text
+cast-write-text : tie.Need-overflow_cast-to
 cast-write-text c = search rules
 
-add-write-text-2 : tie.Need-overflow-add-write-text-2
+add-write-text-2 : tie.Need-overflow_add-at
 add-write-text-2 c = search rules
 
-write-text-requires : tie.Need-write-text-requires
+write-text-requires : tie.Need-write_text-end-requires
 write-text-requires c κs = search rules
 
-slice-aggregate-write-bytes-2 : tie.Need-slice-aggregate-write-bytes-2
-slice-aggregate-write-bytes-2 c = search rules
-
-write-bytes-requires-2 : tie.Need-write-bytes-requires-2
+write-bytes-requires-2 : tie.Need-write_bytes-requires-in-Content
 write-bytes-requires-2 c κs = search rules
 
-add-result : tie.Need-overflow-add-result
+add-result : tie.Need-overflow_add-result
 add-result c =
     let text = c.before.before.before.before.before.before.before in
     let told = text.before.before.before.before.before.before.before in
     let s = told.before.before.before.before.before in
     let a = s.args in
-    omega (arith, s.requires.1, ap length (content-read told), content-long (part a.payload.now (a.at + 12) told.before.before.text-length.result.0), text.write-text.ensures.0)
+    omega (arith, s.requires.1, ap length (content-read told), content-long (part a.payload.now (a.at + 12) told.before.before.text_length-text.result.0), text.write_text-end.ensures.0)
 
-enum-told-2 : tie.Need-enum-told-2
+enum-told-2 : tie.Need-enum_told-in-Name
 enum-told-2 c = search rules
 
-slice-aggregate-write-bytes-3 : tie.Need-slice-aggregate-write-bytes-3
-slice-aggregate-write-bytes-3 c = search rules
-
-write-bytes-requires-3 : tie.Need-write-bytes-requires-3
+write-bytes-requires-3 : tie.Need-write_bytes-requires-in-Name
 write-bytes-requires-3 c κs = search rules
 
-add-read-u32 : tie.Need-overflow-add-read-u32
+add-read-u32 : tie.Need-overflow_add-at-in-Name
 add-read-u32 c = search rules
 
-read-u32-requires : tie.Need-read-u32-requires
+read-u32-requires : tie.Need-read_u32-size-requires
 read-u32-requires c κs = search rules
 
-add-write-number : tie.Need-overflow-add-write-number
+add-write-number : tie.Need-overflow_add-to-in-Name
 add-write-number c = search rules
 
-cast-write-number : tie.Need-overflow-cast-write-number
+cast-write-number : tie.Need-overflow_cast-to-in-Name
 cast-write-number c = search rules
 
-write-number-requires : tie.Need-write-number-requires
+write-number-requires : tie.Need-write_number-next-requires
 write-number-requires c κs = search rules
 
-cast-write-text-2 : tie.Need-overflow-cast-write-text-2
+cast-write-text-2 : tie.Need-overflow_cast-next
 cast-write-text-2 c =
     let number = c.before.before.before in
     let read = number.before.before in
     let s = read.before.before.before.before.before.before.before.before.before.before.before in
     let a = s.args in
-    omega (arith, s.requires.1, ap length (name-read read), name-long read.read_u32.result (part a.payload.now (a.at + 16) read.before.before.before.before.before.before.before.before.text-length.result.0), number.write-number.ensures.0)
+    omega (arith, s.requires.1, ap length (name-read read), name-long read.read_u32-size.result (part a.payload.now (a.at + 16) read.before.before.before.before.before.before.before.before.text_length-text.result.0), number.write_number-next.ensures.0)
 
-add-write-text-3 : tie.Need-overflow-add-write-text-3
+add-write-text-3 : tie.Need-overflow_add-at-in-Name-2
 add-write-text-3 c = search rules
 
-write-text-requires-2 : tie.Need-write-text-requires-2
+write-text-requires-2 : tie.Need-write_text-end-requires-in-Name
 write-text-requires-2 c κs = search rules
 
-slice-aggregate-write-bytes-4 : tie.Need-slice-aggregate-write-bytes-4
-slice-aggregate-write-bytes-4 c = search rules
-
-write-bytes-requires-4 : tie.Need-write-bytes-requires-4
+write-bytes-requires-4 : tie.Need-write_bytes-requires-in-Name-2
 write-bytes-requires-4 c κs = search rules
 
-add-result-2 : tie.Need-overflow-add-result-2
+add-result-2 : tie.Need-overflow_add-result-in-Name
 add-result-2 c =
     let text = c.before.before.before.before.before.before.before in
     let number = text.before.before.before.before in
     let read = number.before.before in
     let s = read.before.before.before.before.before.before.before.before.before.before.before in
     let a = s.args in
-    omega (arith, s.requires.1, ap length (name-read read), name-long read.read_u32.result (part a.payload.now (a.at + 16) read.before.before.before.before.before.before.before.before.text-length.result.0), number.write-number.ensures.0, text.write-text2.ensures.0)
+    omega (arith, s.requires.1, ap length (name-read read), name-long read.read_u32-size.result (part a.payload.now (a.at + 16) read.before.before.before.before.before.before.before.before.text_length-text.result.0), number.write_number-next.ensures.0, text.write_text-end-in-Name.ensures.0)
 
-same_length : tie.Need-same-length
+same_length : tie.Need-shape_of-output-in-Content
 same_length c = search rules
 
-returns : tie.Need-returns
+returns : tie.Need-returns-in-Content
 unfolding ascii
 returns c =
     let last = c.before.before in
@@ -164,15 +152,15 @@ returns c =
     let told = text.before.before.before.before.before.before.before in
     let a = told.before.before.before.before.before.args in
     let one : Stored a.output.now a.to (ascii "content") _ (a.to + 7) = first-stored word.write_bytes.ensures refl in
-    let two = then-stored (field (escape (part a.payload.now (a.at + 12) told.before.before.text-length.result.0))) one text.write-text.ensures.1 text.write-text.ensures.0 in
-    let all = then-stored end two last.write-bytes2.ensures refl in
+    let two = then-stored (field (escape (part a.payload.now (a.at + 12) told.before.before.text_length-text.result.0))) one text.write_text-end.ensures.1 text.write_text-end.ensures.0 in
+    let all = then-stored end two last.write_bytes-in-Content.ensures refl in
     let is = content-read told in
     (all.ends ∙ ap (λ (l : List ℕ). a.to + length l) (sym is), all.is ∙ ap (sets a.output.now a.to) (sym is))
 
-same-length-2 : tie.Need-same-length-2
+same-length-2 : tie.Need-shape_of-output-in-Name
 same-length-2 c = search rules
 
-returns-2 : tie.Need-returns-2
+returns-2 : tie.Need-returns-in-Name
 unfolding ascii
 returns-2 c =
     let last = c.before.before in
@@ -181,30 +169,27 @@ returns-2 c =
     let read = number.before.before in
     let word = number.before.before.before.before.before in
     let a = read.before.before.before.before.before.before.before.before.before.before.before.args in
-    let one : Stored a.output.now a.to (ascii "name") _ (a.to + 4) = first-stored word.write-bytes3.ensures refl in
-    let two = then-stored (field (decimal read.read_u32.result)) one number.write-number.ensures.1 number.write-number.ensures.0 in
-    let three = then-stored (field (escape (part a.payload.now (a.at + 16) read.before.before.before.before.before.before.before.before.text-length.result.0))) two text.write-text2.ensures.1 text.write-text2.ensures.0 in
-    let all = then-stored end three last.write-bytes4.ensures refl in
+    let one : Stored a.output.now a.to (ascii "name") _ (a.to + 4) = first-stored word.write_bytes-in-Name.ensures refl in
+    let two = then-stored (field (decimal read.read_u32-size.result)) one number.write_number-next.ensures.1 number.write_number-next.ensures.0 in
+    let three = then-stored (field (escape (part a.payload.now (a.at + 16) read.before.before.before.before.before.before.before.before.text_length-text.result.0))) two text.write_text-end-in-Name.ensures.1 text.write_text-end-in-Name.ensures.0 in
+    let all = then-stored end three last.write_bytes-in-Name-2.ensures refl in
     let is = name-read read in
     (all.ends ∙ ap (λ (l : List ℕ). a.to + length l) (sym is), all.is ∙ ap (sets a.output.now a.to) (sym is))
 
-pub write-entry-spec : {M : Type 1} → statement M
-write-entry-spec =
+pub write_entry_spec : {M : Type 1} → statement M
+write_entry_spec =
     tie.close
     (tie.spec
     text-length-requires
     enum_told
-    slice-aggregate-write-bytes
     write-bytes-requires
     add-write-text
     cast-write-text
     add-write-text-2
     write-text-requires
-    slice-aggregate-write-bytes-2
     write-bytes-requires-2
     add-result
     enum-told-2
-    slice-aggregate-write-bytes-3
     write-bytes-requires-3
     add-read-u32
     read-u32-requires
@@ -214,7 +199,6 @@ write-entry-spec =
     cast-write-text-2
     add-write-text-3
     write-text-requires-2
-    slice-aggregate-write-bytes-4
     write-bytes-requires-4
     add-result-2
     same_length

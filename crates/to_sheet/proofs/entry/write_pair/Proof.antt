@@ -29,45 +29,39 @@ long : (p : List ℕ) (at name start value : ℕ) → length (pair_line p at nam
 unfolding ascii
 long p at name start value = ap length (is-line p at name start value) ∙ simp length-append
 
-slice-aggregate-write-bytes : tie.Need-slice-aggregate-write-bytes
-slice-aggregate-write-bytes c = search rules
-
-write-bytes-requires : tie.Need-write-bytes-requires
+write-bytes-requires : tie.Need-write_bytes-requires
 write-bytes-requires c κs = search rules
 
-add-write-text : tie.Need-overflow-add-write-text
+add-write-text : tie.Need-overflow_add-to
 add-write-text c = search rules
 
-cast-write-text : tie.Need-overflow-cast-write-text
+cast-write-text : tie.Need-overflow_cast-to
 cast-write-text c = search rules
 
-write-text-requires : tie.Need-write-text-requires
+write-text-requires : tie.Need-write_text-next-requires
 write-text-requires c κs = search rules
 
-cast-write-text-2 : tie.Need-overflow-cast-write-text-2
+cast-write-text-2 : tie.Need-overflow_cast-next
 cast-write-text-2 c =
     let s = c.before.before.before.before.before.before.before.before.before.before.before.before in
     let a = s.args in
-    omega (arith, s.requires, long a.payload.now a.at a.name.0 a.start a.value.0, c.before.before.before.write-text.ensures.0)
+    omega (arith, s.requires, long a.payload.now a.at a.name.0 a.start a.value.0, c.before.before.before.write_text-next.ensures.0)
 
-write-text-requires-2 : tie.Need-write-text-requires-2
+write-text-requires-2 : tie.Need-write_text-end-requires
 write-text-requires-2 c κs = search rules
 
-slice-aggregate-write-bytes-2 : tie.Need-slice-aggregate-write-bytes-2
-slice-aggregate-write-bytes-2 c = search rules
-
-write-bytes-requires-2 : tie.Need-write-bytes-requires-2
+write-bytes-requires-2 : tie.Need-write_bytes-requires-2
 write-bytes-requires-2 c κs = search rules
 
-add-result : tie.Need-overflow-add-result
+add-result : tie.Need-overflow_add-result
 add-result c =
     let second = c.before.before.before.before.before.before.before in
     let first = second.before.before.before.before in
     let s = first.before.before.before.before.before.before.before.before.before in
     let a = s.args in
-    omega (arith, s.requires, long a.payload.now a.at a.name.0 a.start a.value.0, first.write-text.ensures.0, second.write-text2.ensures.0)
+    omega (arith, s.requires, long a.payload.now a.at a.name.0 a.start a.value.0, first.write_text-next.ensures.0, second.write_text-end.ensures.0)
 
-same_length : tie.Need-same-length
+same_length : tie.Need-shape_of-output
 same_length c = search rules
 
 returns : tie.Need-returns
@@ -82,24 +76,22 @@ returns c =
     let name = escape (part p a.at a.name.0) in
     let value = escape (part p a.start a.value.0) in
     let one : Stored a.output.now a.to (ascii "pair") _ (a.to + 4) = first-stored word.write_bytes.ensures refl in
-    let two = then-stored (field name) one first.write-text.ensures.1 first.write-text.ensures.0 in
-    let three = then-stored (field value) two second.write-text2.ensures.1 second.write-text2.ensures.0 in
-    let all = then-stored end three last.write-bytes2.ensures refl in
+    let two = then-stored (field name) one first.write_text-next.ensures.1 first.write_text-next.ensures.0 in
+    let three = then-stored (field value) two second.write_text-end.ensures.1 second.write_text-end.ensures.0 in
+    let all = then-stored end three last.write_bytes-2.ensures refl in
     let is = is-line p a.at a.name.0 a.start a.value.0 in
     (all.ends ∙ ap (λ (l : List ℕ). a.to + length l) (sym is), all.is ∙ ap (sets a.output.now a.to) (sym is))
 
-pub write-pair-spec : {M : Type 1} → statement M
-write-pair-spec =
+pub write_pair_spec : {M : Type 1} → statement M
+write_pair_spec =
     tie.close
     (tie.spec
-    slice-aggregate-write-bytes
     write-bytes-requires
     add-write-text
     cast-write-text
     write-text-requires
     cast-write-text-2
     write-text-requires-2
-    slice-aggregate-write-bytes-2
     write-bytes-requires-2
     add-result
     same_length

@@ -36,105 +36,99 @@ long header count uncompressed bytes = simp length-append
 
 -- the numbers that were read are those of the line
 as_read :
-    (r : tie.After-read-u324) →
+    (r : tie.After-read_u32-size) →
     (let a = r.before.before.before.before.before.before.before.before.before.before.before.args in
-    line (packed_at a.payload.now a.at) ≡ pieces r.before.before.before.read_u32.result r.before.before.read-u322.result r.before.read-u323.result (part a.payload.now (a.at + 28) r.read-u324.result))
+    line (packed_at a.payload.now a.at) ≡ pieces r.before.before.before.read_u32-field.result r.before.before.read_u32-count.result r.before.read_u32-uncompressed.result (part a.payload.now (a.at + 28) r.read_u32-size.result))
 as_read r =
     let a = r.before.before.before.before.before.before.before.before.before.before.before.args in
-    rw (r.before.before.before.read_u32.ensures, r.before.before.read-u322.ensures, r.before.read-u323.ensures, r.read-u324.ensures) (is-line a.payload.now a.at)
+    rw (r.before.before.before.read_u32-field.ensures, r.before.before.read_u32-count.ensures, r.before.read_u32-uncompressed.ensures, r.read_u32-size.ensures) (is-line a.payload.now a.at)
 
 -- and so it fits a sheet
 fits :
-    (r : tie.After-read-u324) →
+    (r : tie.After-read_u32-size) →
     (let a = r.before.before.before.before.before.before.before.before.before.before.before.args in
-    a.to + (6 + length (field (decimal r.before.before.before.read_u32.result)) + length (field (decimal r.before.before.read-u322.result)) + length (field (decimal r.before.read-u323.result)) + length (field (hex_pairs (part a.payload.now (a.at + 28) r.read-u324.result))) + 1) ≤ sheet_limit)
+    a.to + (6 + length (field (decimal r.before.before.before.read_u32-field.result)) + length (field (decimal r.before.before.read_u32-count.result)) + length (field (decimal r.before.read_u32-uncompressed.result)) + length (field (hex_pairs (part a.payload.now (a.at + 28) r.read_u32-size.result))) + 1) ≤ sheet_limit)
 fits r =
     let s = r.before.before.before.before.before.before.before.before.before.before.before in
     let a = s.args in
-    rw (← long r.before.before.before.read_u32.result r.before.before.read-u322.result r.before.read-u323.result (part a.payload.now (a.at + 28) r.read-u324.result), ← as_read r) s.requires.1
+    rw (← long r.before.before.before.read_u32-field.result r.before.before.read_u32-count.result r.before.read_u32-uncompressed.result (part a.payload.now (a.at + 28) r.read_u32-size.result), ← as_read r) s.requires.1
 
-slice-aggregate-write-bytes : tie.Need-slice-aggregate-write-bytes
-slice-aggregate-write-bytes c = search rules
-
-write-bytes-requires : tie.Need-write-bytes-requires
+write-bytes-requires : tie.Need-write_bytes-requires
 write-bytes-requires c κs = search rules
 
-add-read-u32 : tie.Need-overflow-add-read-u32
+add-read-u32 : tie.Need-overflow_add-at
 add-read-u32 c = search rules
 
-read-u32-requires : tie.Need-read-u32-requires
+read-u32-requires : tie.Need-read_u32-field-requires
 read-u32-requires c κs = search rules
 
-add-read-u32-2 : tie.Need-overflow-add-read-u32-2
+add-read-u32-2 : tie.Need-overflow_add-at-2
 add-read-u32-2 c = search rules
 
-read-u32-requires-2 : tie.Need-read-u32-requires-2
+read-u32-requires-2 : tie.Need-read_u32-count-requires
 read-u32-requires-2 c κs = search rules
 
-add-read-u32-3 : tie.Need-overflow-add-read-u32-3
+add-read-u32-3 : tie.Need-overflow_add-at-3
 add-read-u32-3 c = search rules
 
-read-u32-requires-3 : tie.Need-read-u32-requires-3
+read-u32-requires-3 : tie.Need-read_u32-uncompressed-requires
 read-u32-requires-3 c κs = search rules
 
-add-read-u32-4 : tie.Need-overflow-add-read-u32-4
+add-read-u32-4 : tie.Need-overflow_add-at-4
 add-read-u32-4 c = search rules
 
-read-u32-requires-4 : tie.Need-read-u32-requires-4
+read-u32-requires-4 : tie.Need-read_u32-size-requires
 read-u32-requires-4 c κs = search rules
 
-add-write-number : tie.Need-overflow-add-write-number
+add-write-number : tie.Need-overflow_add-to
 add-write-number c = search rules
 
-cast-write-number : tie.Need-overflow-cast-write-number
+cast-write-number : tie.Need-overflow_cast-to
 cast-write-number c = search rules
 
-write-number-requires : tie.Need-write-number-requires
+write-number-requires : tie.Need-write_number-first-requires
 write-number-requires c κs = search rules
 
-cast-write-number-2 : tie.Need-overflow-cast-write-number-2
-cast-write-number-2 c = let n = c.before.before.before in omega (arith, fits n.before.before, n.write-number.ensures.0)
+cast-write-number-2 : tie.Need-overflow_cast-first
+cast-write-number-2 c = let n = c.before.before.before in omega (arith, fits n.before.before, n.write_number-first.ensures.0)
 
-write-number-requires-2 : tie.Need-write-number-requires-2
+write-number-requires-2 : tie.Need-write_number-second-requires
 write-number-requires-2 c κs = search rules
 
-cast-write-number-3 : tie.Need-overflow-cast-write-number-3
+cast-write-number-3 : tie.Need-overflow_cast-second
 cast-write-number-3 c =
     let second = c.before.before.before in
     let first = second.before.before.before.before in
-    omega (arith, fits first.before.before, first.write-number.ensures.0, second.write-number2.ensures.0)
+    omega (arith, fits first.before.before, first.write_number-first.ensures.0, second.write_number-second.ensures.0)
 
-write-number-requires-3 : tie.Need-write-number-requires-3
+write-number-requires-3 : tie.Need-write_number-third-requires
 write-number-requires-3 c κs = search rules
 
-add_start : tie.Need-overflow-add-start
+add_start : tie.Need-overflow_add-start
 add_start c = search rules
 
-cast-write-hex : tie.Need-overflow-cast-write-hex
+cast-write-hex : tie.Need-overflow_cast-third
 cast-write-hex c =
     let third = c.before.before.before in
     let second = third.before.before.before.before in
     let first = second.before.before.before.before in
-    omega (arith, fits first.before.before, first.write-number.ensures.0, second.write-number2.ensures.0, third.write-number3.ensures.0)
+    omega (arith, fits first.before.before, first.write_number-first.ensures.0, second.write_number-second.ensures.0, third.write_number-third.ensures.0)
 
-write-hex-requires : tie.Need-write-hex-requires
+write-hex-requires : tie.Need-write_hex-end-requires
 write-hex-requires c κs = search rules
 
-slice-aggregate-write-bytes-2 : tie.Need-slice-aggregate-write-bytes-2
-slice-aggregate-write-bytes-2 c = search rules
-
-write-bytes-requires-2 : tie.Need-write-bytes-requires-2
+write-bytes-requires-2 : tie.Need-write_bytes-requires-2
 write-bytes-requires-2 c κs = search rules
 
-add-result : tie.Need-overflow-add-result
+add-result : tie.Need-overflow_add-result
 add-result c =
     let hex = c.before.before.before.before.before.before.before in
     let third = hex.before.before.before.before in
     let second = third.before.before.before.before in
     let first = second.before.before.before.before in
-    omega (arith, fits first.before.before, first.write-number.ensures.0, second.write-number2.ensures.0, third.write-number3.ensures.0, hex.write-hex.ensures.0)
+    omega (arith, fits first.before.before, first.write_number-first.ensures.0, second.write_number-second.ensures.0, third.write_number-third.ensures.0, hex.write_hex-end.ensures.0)
 
-same_length : tie.Need-same-length
+same_length : tie.Need-shape_of-output
 same_length c = search rules
 
 returns : tie.Need-returns
@@ -149,19 +143,18 @@ returns c =
     let word = read.before.before.before.before.before.before in
     let a = word.before.before.before.before.before.args in
     let one : Stored a.output.now a.to (ascii "packed") _ (a.to + 6) = first-stored word.write_bytes.ensures refl in
-    let two = then-stored (field (decimal read.before.before.before.read_u32.result)) one first.write-number.ensures.1 first.write-number.ensures.0 in
-    let three = then-stored (field (decimal read.before.before.read-u322.result)) two second.write-number2.ensures.1 second.write-number2.ensures.0 in
-    let four = then-stored (field (decimal read.before.read-u323.result)) three third.write-number3.ensures.1 third.write-number3.ensures.0 in
-    let five = then-stored (field (hex_pairs (part a.payload.now (a.at + 28) read.read-u324.result))) four hex.write-hex.ensures.1 hex.write-hex.ensures.0 in
-    let all = then-stored end five last.write-bytes2.ensures refl in
+    let two = then-stored (field (decimal read.before.before.before.read_u32-field.result)) one first.write_number-first.ensures.1 first.write_number-first.ensures.0 in
+    let three = then-stored (field (decimal read.before.before.read_u32-count.result)) two second.write_number-second.ensures.1 second.write_number-second.ensures.0 in
+    let four = then-stored (field (decimal read.before.read_u32-uncompressed.result)) three third.write_number-third.ensures.1 third.write_number-third.ensures.0 in
+    let five = then-stored (field (hex_pairs (part a.payload.now (a.at + 28) read.read_u32-size.result))) four hex.write_hex-end.ensures.1 hex.write_hex-end.ensures.0 in
+    let all = then-stored end five last.write_bytes-2.ensures refl in
     let is = as_read read in
     (all.ends ∙ ap (λ (l : List ℕ). a.to + length l) (sym is), all.is ∙ ap (sets a.output.now a.to) (sym is))
 
-pub write-packed-spec : {M : Type 1} → statement M
-write-packed-spec =
+pub write_packed_spec : {M : Type 1} → statement M
+write_packed_spec =
     tie.close
     (tie.spec
-    slice-aggregate-write-bytes
     write-bytes-requires
     add-read-u32
     read-u32-requires
@@ -181,7 +174,6 @@ write-packed-spec =
     add_start
     cast-write-hex
     write-hex-requires
-    slice-aggregate-write-bytes-2
     write-bytes-requires-2
     add-result
     same_length

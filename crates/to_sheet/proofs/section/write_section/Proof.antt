@@ -43,140 +43,134 @@ unknown-lines p kind at = append-nil (line (unknown_at p kind at))
 -- ---- the lines, with the numbers that were read
 
 names-read :
-    (r : tie.After-read-u32) →
+    (r : tie.After-read_u32-count) →
     (let a = r.before.before.before.before.before.before.before.before.before.before.args in
     let p = a.payload.now in
-    flat_map line (section_records p a.kind a.at) ≡ ascii "names\n" ++ entry_lines p (name_at p) r.read_u32.result (a.at + 18))
+    flat_map line (section_records p a.kind a.at) ≡ ascii "names\n" ++ entry_lines p (name_at p) r.read_u32-count.result (a.at + 18))
 names-read r =
     let a = r.before.before.before.before.before.before.before.before.before.before.args in
-    rw (r.before.before.before.before.before.before.enum-told2.given.1, r.read_u32.ensures) (names-lines a.payload.now a.at)
+    rw (r.before.before.before.before.before.before.enum_told-in-SourceNames-1.given.1, r.read_u32-count.ensures) (names-lines a.payload.now a.at)
 
 arguments-read :
-    (r : tie.After-read-u322) →
+    (r : tie.After-read_u32-count-in-Arguments) →
     (let a = r.before.before.before.before.before.before.before.before.before.before.args in
     let p = a.payload.now in
-    flat_map line (section_records p a.kind a.at) ≡ ascii "arguments\n" ++ pair_lines p r.read-u322.result (a.at + 20))
+    flat_map line (section_records p a.kind a.at) ≡ ascii "arguments\n" ++ pair_lines p r.read_u32-count-in-Arguments.result (a.at + 20))
 arguments-read r =
     let a = r.before.before.before.before.before.before.before.before.before.before.args in
-    rw (r.before.before.before.before.before.before.enum-told3.given.1, r.read-u322.ensures) (arguments-lines a.payload.now a.at)
+    rw (r.before.before.before.before.before.before.enum_told-in-Arguments-1.given.1, r.read_u32-count-in-Arguments.ensures) (arguments-lines a.payload.now a.at)
 
 -- the entries of names end within the section, and arguments have their headers
 names-within :
-    (r : tie.After-read-u32) →
-    (let a = r.before.before.before.before.before.before.before.before.before.before.args in entries_end a.payload.now r.read_u32.result (a.at + 18) ≤ a.at + u32_at a.payload.now a.at)
+    (r : tie.After-read_u32-count) →
+    (let a = r.before.before.before.before.before.before.before.before.before.before.args in entries_end a.payload.now r.read_u32-count.result (a.at + 18) ≤ a.at + u32_at a.payload.now a.at)
 unfolding parse_section
 names-within r =
     let s = r.before.before.before.before.before.before.before.before.before.before in
     let a = s.args in
-    let whole = is-good _ (rw r.before.before.before.before.before.before.enum-told2.given.1 at s.requires.0) in
-    rw r.read_u32.ensures (names-walk a.payload.now a.at (u32_at a.payload.now a.at) whole.0 whole.1).1
+    let whole = is-good _ (rw r.before.before.before.before.before.before.enum_told-in-SourceNames-1.given.1 at s.requires.0) in
+    rw r.read_u32-count.ensures (names-walk a.payload.now a.at (u32_at a.payload.now a.at) whole.0 whole.1).1
 
 arguments-within :
-    (r : tie.After-read-u322) →
+    (r : tie.After-read_u32-count-in-Arguments) →
     (let a = r.before.before.before.before.before.before.before.before.before.before.args in a.at + 20 ≤ a.at + u32_at a.payload.now a.at)
 unfolding parse_section
 arguments-within r =
     let s = r.before.before.before.before.before.before.before.before.before.before in
     let a = s.args in
     let p = a.payload.now in
-    let whole = is-good _ (rw r.before.before.before.before.before.before.enum-told3.given.1 at s.requires.0) in
+    let whole = is-good _ (rw r.before.before.before.before.before.before.enum_told-in-Arguments-1.given.1 at s.requires.0) in
     omega (arith, (arguments-walk p a.at (u32_at p a.at) whole.0 whole.1).1, pairs-forward p (u32_at p (a.at + 16)) (a.at + 20))
 
 -- ---- the contract
 
-enum_told : tie.Need-enum-told
+enum_told : tie.Need-enum_told-1
 enum_told c = search rules
 
-write-contents-requires : tie.Need-write-contents-requires
+write-contents-requires : tie.Need-write_contents-requires
 unfolding parse_section section_records
 write-contents-requires c κs =
     let told = c.before in
     let s = told.before.before.before.before in
-    let is = told.enum_told.given.1 in
+    let is = told.enum_told-1.given.1 in
     (rw is at s.requires.0, (omega (arith, s.requires.1.0, s.requires.1.1.0), rw is at s.requires.1.1.1))
 
-enum-told-2 : tie.Need-enum-told-2
+enum-told-2 : tie.Need-enum_told-in-SourceNames
 enum-told-2 c = search rules
 
-slice-aggregate-write-bytes : tie.Need-slice-aggregate-write-bytes
-slice-aggregate-write-bytes c = search rules
-
-write-bytes-requires : tie.Need-write-bytes-requires
+write-bytes-requires : tie.Need-write_bytes-requires
 write-bytes-requires c κs = search rules
 
-add-read-u32 : tie.Need-overflow-add-read-u32
+add-read-u32 : tie.Need-overflow_add-at
 add-read-u32 c = search rules
 
-read-u32-requires : tie.Need-read-u32-requires
+read-u32-requires : tie.Need-read_u32-count-requires
 read-u32-requires c κs = search rules
 
-add_start : tie.Need-overflow-add-start
+add_start : tie.Need-overflow_add-start
 add_start c = search rules
 
-add-write-entries : tie.Need-overflow-add-write-entries
+add-write-entries : tie.Need-overflow_add-to
 add-write-entries c = search rules
 
-write-entries-requires : tie.Need-write-entries-requires
+write-entries-requires : tie.Need-write_entries-requires
 unfolding ascii
 write-entries-requires c κs =
     let r = c.before in
     let s = r.before.before.before.before.before.before.before.before.before.before in
     let a = s.args in
-    let rest = entry_lines a.payload.now (name_at a.payload.now) r.read_u32.result (a.at + 18) in
+    let rest = entry_lines a.payload.now (name_at a.payload.now) r.read_u32-count.result (a.at + 18) in
     (omega (arith, names-within r, s.requires.1.0, s.requires.1.1.0), omega (arith, s.requires.1.1.1, ap length (names-read r), length-append (ascii "names\n") rest))
 
-enum-told-3 : tie.Need-enum-told-3
+enum-told-3 : tie.Need-enum_told-in-Arguments
 enum-told-3 c = search rules
 
-slice-aggregate-write-bytes-2 : tie.Need-slice-aggregate-write-bytes-2
-slice-aggregate-write-bytes-2 c = search rules
-
-write-bytes-requires-2 : tie.Need-write-bytes-requires-2
+write-bytes-requires-2 : tie.Need-write_bytes-requires-in-Arguments
 write-bytes-requires-2 c κs = search rules
 
-add-read-u32-2 : tie.Need-overflow-add-read-u32-2
+add-read-u32-2 : tie.Need-overflow_add-at-in-Arguments
 add-read-u32-2 c = search rules
 
-read-u32-requires-2 : tie.Need-read-u32-requires-2
+read-u32-requires-2 : tie.Need-read_u32-count-requires-in-Arguments
 read-u32-requires-2 c κs = search rules
 
-add-start-2 : tie.Need-overflow-add-start-2
+add-start-2 : tie.Need-overflow_add-start-in-Arguments
 add-start-2 c = search rules
 
-add-write-pairs : tie.Need-overflow-add-write-pairs
+add-write-pairs : tie.Need-overflow_add-to-in-Arguments
 add-write-pairs c = search rules
 
-write-pairs-requires : tie.Need-write-pairs-requires
+write-pairs-requires : tie.Need-write_pairs-requires
 unfolding ascii
 write-pairs-requires c κs =
     let r = c.before in
     let s = r.before.before.before.before.before.before.before.before.before.before in
     let a = s.args in
-    let rest = pair_lines a.payload.now r.read-u322.result (a.at + 20) in
+    let rest = pair_lines a.payload.now r.read_u32-count-in-Arguments.result (a.at + 20) in
     (omega (arith, arguments-within r, s.requires.1.0, s.requires.1.1.0), (omega (arith, s.requires.1.1.0), omega (arith, s.requires.1.1.1, ap length (arguments-read r), length-append (ascii "arguments\n") rest)))
 
-enum-known-kind : tie.Need-enum-known-kind
+enum-known-kind : tie.Need-enum_known-kind
 enum-known-kind c = search rules
 
-write-unknown-requires : tie.Need-write-unknown-requires
+write-unknown-requires : tie.Need-write_unknown-requires
 write-unknown-requires c κs =
     let k = c.before.before in
     let s = k.before.before.before.before in
-    (omega (arith, s.requires.1.0, s.requires.1.1.0), rw (← unknown-lines s.args.payload.now _ s.args.at, ← k.kind.given.1) s.requires.1.1.1)
+    (omega (arith, s.requires.1.0, s.requires.1.1.0), rw (← unknown-lines s.args.payload.now _ s.args.at, ← k.kind-1.given.1) s.requires.1.1.1)
 
-same_length : tie.Need-same-length
+same_length : tie.Need-shape_of-output-in-SourceContents
 same_length c = search rules
 
-returns : tie.Need-returns
+returns : tie.Need-returns-in-SourceContents
 unfolding section_records
 returns c =
     let w = c.before.before in
-    rw w.before.before.enum_told.given.1 w.write-contents.ensures
+    rw w.before.before.enum_told-1.given.1 w.write_contents.ensures
 
-same-length-2 : tie.Need-same-length-2
+same-length-2 : tie.Need-shape_of-output-in-SourceNames
 same-length-2 c = search rules
 
-returns-2 : tie.Need-returns-2
+returns-2 : tie.Need-returns-in-SourceNames
 unfolding ascii
 returns-2 c =
     let w = c.before.before in
@@ -185,14 +179,14 @@ returns-2 c =
     let a = r.before.before.before.before.before.before.before.before.before.before.args in
     let p = a.payload.now in
     let one : Stored a.output.now a.to (ascii "names\n") _ (a.to + 6) = first-stored word.write_bytes.ensures refl in
-    let all = then-stored (entry_lines p (name_at p) r.read_u32.result (a.at + 18)) one w.write_entries.ensures.1 w.write_entries.ensures.0 in
+    let all = then-stored (entry_lines p (name_at p) r.read_u32-count.result (a.at + 18)) one w.write_entries.ensures.1 w.write_entries.ensures.0 in
     let is = names-read r in
     (all.ends ∙ ap (λ (l : List ℕ). a.to + length l) (sym is), all.is ∙ ap (sets a.output.now a.to) (sym is))
 
-same-length-3 : tie.Need-same-length-3
+same-length-3 : tie.Need-shape_of-output-in-Arguments
 same-length-3 c = search rules
 
-returns-3 : tie.Need-returns-3
+returns-3 : tie.Need-returns-in-Arguments
 unfolding ascii
 returns-3 c =
     let w = c.before.before in
@@ -200,29 +194,28 @@ returns-3 c =
     let word = r.before.before.before in
     let a = r.before.before.before.before.before.before.before.before.before.before.args in
     let p = a.payload.now in
-    let one : Stored a.output.now a.to (ascii "arguments\n") _ (a.to + 10) = first-stored word.write-bytes2.ensures refl in
-    let all = then-stored (pair_lines p r.read-u322.result (a.at + 20)) one w.write-pairs.ensures.1 w.write-pairs.ensures.0 in
+    let one : Stored a.output.now a.to (ascii "arguments\n") _ (a.to + 10) = first-stored word.write_bytes-in-Arguments.ensures refl in
+    let all = then-stored (pair_lines p r.read_u32-count-in-Arguments.result (a.at + 20)) one w.write_pairs.ensures.1 w.write_pairs.ensures.0 in
     let is = arguments-read r in
     (all.ends ∙ ap (λ (l : List ℕ). a.to + length l) (sym is), all.is ∙ ap (sets a.output.now a.to) (sym is))
 
-same-length-4 : tie.Need-same-length-4
+same-length-4 : tie.Need-shape_of-output-in-Unknown
 same-length-4 c = search rules
 
-returns-4 : tie.Need-returns-4
+returns-4 : tie.Need-returns-in-Unknown
 returns-4 c =
     let w = c.before.before in
     let k = w.before.before.before in
     let a = k.before.before.before.before.args in
-    rw (k.kind.given.1, unknown-lines a.payload.now _ a.at) w.write-unknown.ensures
+    rw (k.kind-1.given.1, unknown-lines a.payload.now _ a.at) w.write_unknown.ensures
 
-pub write-section-spec : {M : Type 1} → statement M
-write-section-spec =
+pub write_section_spec : {M : Type 1} → statement M
+write_section_spec =
     tie.close
     (tie.spec
     enum_told
     write-contents-requires
     enum-told-2
-    slice-aggregate-write-bytes
     write-bytes-requires
     add-read-u32
     read-u32-requires
@@ -230,7 +223,6 @@ write-section-spec =
     add-write-entries
     write-entries-requires
     enum-told-3
-    slice-aggregate-write-bytes-2
     write-bytes-requires-2
     add-read-u32-2
     read-u32-requires-2

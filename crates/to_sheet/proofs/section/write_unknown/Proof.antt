@@ -30,73 +30,67 @@ long : (p : List ℕ) (kind at : ℕ) → length (line (unknown_at p kind at)) �
 unfolding ascii
 long p kind at = ap length (is-line p kind at) ∙ simp length-append
 
-read-u32-requires : tie.Need-read-u32-requires
+read-u32-requires : tie.Need-read_u32-requires
 read-u32-requires c κs = search rules
 
 -- what the bytes' writer is told
 told :
-    (h : tie.After-write-hex) →
+    (h : tie.After-write_hex-end) →
     (let number = h.before.before.before.before in
     let a = number.before.before.before.before.before.before.before.before.before.before.before.args in
     let bytes = field (hex_pairs (part a.payload.now (a.at + 8) (u32_at a.payload.now a.at - 8))) in
-    (h.write-hex.result ≡ number.write-number.result + length bytes) × (h.write-hex.new.0 ≡ sets number.write-number.new.0 number.write-number.result bytes))
+    (h.write_hex-end.result ≡ number.write_number-next.result + length bytes) × (h.write_hex-end.new.0 ≡ sets number.write_number-next.new.0 number.write_number-next.result bytes))
 told h =
     let number = h.before.before.before.before in
     let read = number.before.before.before.before.before.before.before.before in
     let body = number.before.before.before.before.before.before.before in
     let a = number.before.before.before.before.before.before.before.before.before.before.before.args in
-    let size : body.body-size.result ≡ u32_at a.payload.now a.at - 8 = body.body-size.ensures ∙ ap (λ (k : ℕ). k - 8) read.read_u32.ensures in
+    let size : body.body_size-bytes.result ≡ u32_at a.payload.now a.at - 8 = body.body_size-bytes.ensures ∙ ap (λ (k : ℕ). k - 8) read.read_u32.ensures in
     let bytes : ℕ → List ℕ = λ k. field (hex_pairs (part a.payload.now (a.at + 8) k)) in (
-      h.write-hex.ensures.0 ∙ ap (λ (k : ℕ). number.write-number.result + length (bytes k)) size,
-      h.write-hex.ensures.1 ∙ ap (λ (k : ℕ). sets number.write-number.new.0 number.write-number.result (bytes k)) size,
+      h.write_hex-end.ensures.0 ∙ ap (λ (k : ℕ). number.write_number-next.result + length (bytes k)) size,
+      h.write_hex-end.ensures.1 ∙ ap (λ (k : ℕ). sets number.write_number-next.new.0 number.write_number-next.result (bytes k)) size,
     )
 
-body-size-requires : tie.Need-body-size-requires
+body-size-requires : tie.Need-body_size-bytes-requires
 body-size-requires c κs = search rules
 
-slice-aggregate-write-bytes : tie.Need-slice-aggregate-write-bytes
-slice-aggregate-write-bytes c = search rules
-
-write-bytes-requires : tie.Need-write-bytes-requires
+write-bytes-requires : tie.Need-write_bytes-requires
 write-bytes-requires c κs = search rules
 
-add-write-number : tie.Need-overflow-add-write-number
+add-write-number : tie.Need-overflow_add-to
 add-write-number c = search rules
 
-cast-write-number : tie.Need-overflow-cast-write-number
+cast-write-number : tie.Need-overflow_cast-to
 cast-write-number c = search rules
 
-write-number-requires : tie.Need-write-number-requires
+write-number-requires : tie.Need-write_number-next-requires
 write-number-requires c κs = search rules
 
-cast-write-hex : tie.Need-overflow-cast-write-hex
+cast-write-hex : tie.Need-overflow_cast-next
 cast-write-hex c =
     let number = c.before.before.before in
     let s = number.before.before.before.before.before.before.before.before.before.before.before in
     let a = s.args in
-    omega (arith, s.requires.1, long a.payload.now a.kind a.at, number.write-number.ensures.0)
+    omega (arith, s.requires.1, long a.payload.now a.kind a.at, number.write_number-next.ensures.0)
 
-add-write-hex : tie.Need-overflow-add-write-hex
+add-write-hex : tie.Need-overflow_add-at
 add-write-hex c = search rules
 
-write-hex-requires : tie.Need-write-hex-requires
+write-hex-requires : tie.Need-write_hex-end-requires
 write-hex-requires c κs = search rules
 
-slice-aggregate-write-bytes-2 : tie.Need-slice-aggregate-write-bytes-2
-slice-aggregate-write-bytes-2 c = search rules
-
-write-bytes-requires-2 : tie.Need-write-bytes-requires-2
+write-bytes-requires-2 : tie.Need-write_bytes-requires-2
 write-bytes-requires-2 c κs = search rules
 
-add-result : tie.Need-overflow-add-result
+add-result : tie.Need-overflow_add-result
 add-result c =
     let hex = c.before.before.before.before.before.before.before in
     let number = hex.before.before.before.before in
     let s = number.before.before.before.before.before.before.before.before.before.before.before in
     let a = s.args in
-    omega (arith, s.requires.1, long a.payload.now a.kind a.at, number.write-number.ensures.0, (told hex).0)
+    omega (arith, s.requires.1, long a.payload.now a.kind a.at, number.write_number-next.ensures.0, (told hex).0)
 
-same_length : tie.Need-same-length
+same_length : tie.Need-shape_of-output
 same_length c = search rules
 
 returns : tie.Need-returns
@@ -110,19 +104,18 @@ returns c =
     let p = a.payload.now in
     let bytes = hex_pairs (part p (a.at + 8) (u32_at p a.at - 8)) in
     let one : Stored a.output.now a.to (ascii "unknown") _ (a.to + 7) = first-stored word.write_bytes.ensures refl in
-    let two = then-stored (field (decimal a.kind)) one number.write-number.ensures.1 number.write-number.ensures.0 in
+    let two = then-stored (field (decimal a.kind)) one number.write_number-next.ensures.1 number.write_number-next.ensures.0 in
     let three = then-stored (field bytes) two (told hex).1 (told hex).0 in
-    let all = then-stored end three last.write-bytes2.ensures refl in
+    let all = then-stored end three last.write_bytes-2.ensures refl in
     let is = is-line p a.kind a.at in
     (all.ends ∙ ap (λ (l : List ℕ). a.to + length l) (sym is), all.is ∙ ap (sets a.output.now a.to) (sym is))
 
-pub write-unknown-spec : {M : Type 1} → statement M
-write-unknown-spec =
+pub write_unknown_spec : {M : Type 1} → statement M
+write_unknown_spec =
     tie.close
     (tie.spec
     read-u32-requires
     body-size-requires
-    slice-aggregate-write-bytes
     write-bytes-requires
     add-write-number
     cast-write-number
@@ -130,7 +123,6 @@ write-unknown-spec =
     cast-write-hex
     add-write-hex
     write-hex-requires
-    slice-aggregate-write-bytes-2
     write-bytes-requires-2
     add-result
     same_length

@@ -26,32 +26,32 @@ whole c =
     let (small, good-sections, least, long, flags) = parse-good p found.0 found.1 in
     (ap is_good good-sections, (least, small))
 
-read-u16-requires : tie.Need-read-u16-requires
+read-u16-requires : tie.Need-read_u16-requires
 read-u16-requires c κs = search rules
 
-write-sections-requires : tie.Need-write-sections-requires
+write-sections-requires : tie.Need-write_sections-requires
 unfolding sheet_lines places
 write-sections-requires c κs =
     let s = c.before.before.before.before in
     let (found, (least, small)) = whole s in
-    rw c.before.read-u16.ensures (found, (least, (small, s.requires.1)))
+    rw c.before.read_u16.ensures (found, (least, (small, s.requires.1)))
 
 -- the lines that were stored are the sheet
 stored :
-    (w : tie.After-write-sections) →
+    (w : tie.After-write_sections) →
     (let a = w.before.before.before.before.before.args in
-    (w.write-sections.result ≡ length (sheet_lines a.payload.now)) × (w.write-sections.new.1.1.0 ≡ sets a.output.now 0 (sheet_lines a.payload.now)))
+    (w.write_sections.result ≡ length (sheet_lines a.payload.now)) × (w.write_sections.new.1.1.0 ≡ sets a.output.now 0 (sheet_lines a.payload.now)))
 unfolding sheet_lines places
-stored w = rw w.before.before.read-u16.ensures at w.write-sections.ensures
+stored w = rw w.before.before.read_u16.ensures at w.write_sections.ensures
 
-cast-result : tie.Need-overflow-cast-result
+cast-result : tie.Need-overflow_cast-result
 cast-result c = let w = c.before.before in omega (arith, (stored w).0, w.before.before.before.before.before.requires.1)
 
-same_length : tie.Need-same-length
+same_length : tie.Need-shape_of-output
 same_length c = search rules
 
 returns : tie.Need-returns
 returns c = stored c.before.before
 
-pub write-sheet-spec : {M : Type 1} → statement M
-write-sheet-spec = tie.close (tie.spec read-u16-requires write-sections-requires cast-result same_length returns)
+pub write_sheet_spec : {M : Type 1} → statement M
+write_sheet_spec = tie.close (tie.spec read-u16-requires write-sections-requires cast-result same_length returns)

@@ -31,17 +31,17 @@ module _ (low high : ℕ) (s : List ℕ) (i : ℕ) where
       and-true (leb low (get_or s i 0) && leb (get_or s i 0) high) ∙
       ap (λ (u : Bool). u && leb (get_or s i 0) high) e)
 
-returns : tie.Need-returns
-returns c = past _ _ _ _ c.if1.true
+returns : tie.Need-returns-then-text-at
+returns c = past _ _ _ _ c.if-text-at.true
 
-shared-slice-read-byte : tie.Need-shared-slice-read-byte
+shared-slice-read-byte : tie.Need-bounds-text-at
 shared-slice-read-byte c = search rules
 
-returns-2 : tie.Need-returns-2
-returns-2 c = met _ _ _ _ c.before.before.if1.false false (lt-leb _ _ c.if2.true)
+returns-2 : tie.Need-returns-then-byte-low
+returns-2 c = met _ _ _ _ c.before.before.if-text-at.false false (lt-leb _ _ c.if-byte-low.true)
 
-returns-3 : tie.Need-returns-3
-returns-3 c = met _ _ _ _ c.before.before.if1.false true (le-leb _ _ c.if2.false)
+returns-3 : tie.Need-returns
+returns-3 c = met _ _ _ _ c.before.before.if-text-at.false true (le-leb _ _ c.if-byte-low.false)
 
-pub byte-in-spec : {M : Type 1} → statement M
-byte-in-spec = tie.close (tie.spec returns shared-slice-read-byte returns-2 returns-3)
+pub byte_in_spec : {M : Type 1} → statement M
+byte_in_spec = tie.close (tie.spec returns shared-slice-read-byte returns-2 returns-3)

@@ -32,10 +32,10 @@ five n a b c d e = omega arith
 nine : (n : ℕ) → 5 ≤ n → n ≢ 5 → n ≢ 6 → n ≢ 7 → n ≢ 8 → 9 ≤ n
 nine n h a b c d = omega arith
 
-add-next : tie.Need-overflow-add-next
+add-next : tie.Need-overflow_add-next
 add-next c = search rules
 
-shared-slice-read-class : tie.Need-shared-slice-read-class
+shared-slice-read-class : tie.Need-bounds-text-at
 shared-slice-read-class c = search rules
 
 class-requires : tie.Need-class-requires
@@ -47,58 +47,58 @@ two-requires c κs = search rules
 three-requires : tie.Need-three-requires
 three-requires c κs = search rules
 
-three-requires-2 : tie.Need-three-requires-2
+three-requires-2 : tie.Need-three-requires-in-3
 three-requires-2 c κs = search rules
 
-three-requires-3 : tie.Need-three-requires-3
+three-requires-3 : tie.Need-three-requires-in-4
 three-requires-3 c κs = search rules
 
 four-requires : tie.Need-four-requires
 four-requires c κs = search rules
 
-four-requires-2 : tie.Need-four-requires-2
+four-requires-2 : tie.Need-four-requires-in-7
 four-requires-2 c κs = search rules
 
-four-requires-3 : tie.Need-four-requires-3
+four-requires-3 : tie.Need-four-requires-in-8
 four-requires-3 c κs = search rules
 
-returns : tie.Need-returns
+returns : tie.Need-returns-in-0
 unfolding length_at length_after begins
-returns c = of-class c.before 0 c.match.keys1
+returns c = of-class c.before 0 c.in-0.is
 
-returns-2 : tie.Need-returns-2
+returns-2 : tie.Need-returns-in-1
 unfolding length_at
-returns-2 c = c.two.ensures ∙ of-class c.before.before 1 c.before.match.keys2
+returns-2 c = c.two.ensures ∙ of-class c.before.before 1 c.before.in-1.is
 
-returns-3 : tie.Need-returns-3
+returns-3 : tie.Need-returns-in-2
 unfolding length_at
-returns-3 c = c.three.ensures ∙ of-class c.before.before 2 c.before.match.keys3
+returns-3 c = c.three.ensures ∙ of-class c.before.before 2 c.before.in-2.is
 
-returns-4 : tie.Need-returns-4
+returns-4 : tie.Need-returns-in-3
 unfolding length_at
 returns-4 c =
-    c.three2.ensures ∙
-    ⊎_elim (of-class c.before.before 3) (of-class c.before.before 5) c.before.match.keys4
+    c.three-in-3.ensures ∙
+    ⊎_elim (of-class c.before.before 3) (of-class c.before.before 5) c.before.in-3.is
 
-returns-5 : tie.Need-returns-5
+returns-5 : tie.Need-returns-in-4
 unfolding length_at
-returns-5 c = c.three3.ensures ∙ of-class c.before.before 4 c.before.match.keys5
+returns-5 c = c.three-in-4.ensures ∙ of-class c.before.before 4 c.before.in-4.is
 
-returns-6 : tie.Need-returns-6
+returns-6 : tie.Need-returns-in-6
 unfolding length_at
-returns-6 c = c.four.ensures ∙ of-class c.before.before 6 c.before.match.keys6
+returns-6 c = c.four.ensures ∙ of-class c.before.before 6 c.before.in-6.is
 
-returns-7 : tie.Need-returns-7
+returns-7 : tie.Need-returns-in-7
 unfolding length_at
-returns-7 c = c.four2.ensures ∙ of-class c.before.before 7 c.before.match.keys7
+returns-7 c = c.four-in-7.ensures ∙ of-class c.before.before 7 c.before.in-7.is
 
-returns-8 : tie.Need-returns-8
+returns-8 : tie.Need-returns-in-8
 unfolding length_at
-returns-8 c = c.four3.ensures ∙ of-class c.before.before 8 c.before.match.keys8
+returns-8 c = c.four-in-8.ensures ∙ of-class c.before.before 8 c.before.in-8.is
 
-returns-9 : tie.Need-returns-9
+returns-9 : tie.Need-returns-in_default
 returns-9 c =
-    let r = c.match.rest in
+    let r = c.in_default.in_default-own.rest in
     let three-five = r.0.0.0.0.1 in
     let n = c.before.class.result in
     sym

@@ -6,14 +6,14 @@ use Rattle.utf8.proofs.Alternatives.{after-hit, after-miss}
 use Rattle.utf8.proofs.character.two.Statement.{statement}
 use Rattle.utf8.proofs.character.two.Tie as tie
 
-byte-in-requires : tie.Need-byte-in-requires
+byte-in-requires : tie.Need-byte_in-requires
 byte-in-requires c κs = search rules
 
-returns : tie.Need-returns
-returns c = after-hit _ _ (sym c.before.byte-in.ensures ∙ c.if1.true)
+returns : tie.Need-returns-then-byte_in
+returns c = after-hit _ _ (sym c.before.byte_in.ensures ∙ c.if-byte_in.true)
 
-returns-2 : tie.Need-returns-2
-returns-2 c = after-miss _ _ (sym c.before.byte-in.ensures ∙ c.if1.false)
+returns-2 : tie.Need-returns-else-byte_in
+returns-2 c = after-miss _ _ (sym c.before.byte_in.ensures ∙ c.if-byte_in.false)
 
-pub two-spec : {M : Type 1} → statement M
-two-spec = tie.close (tie.spec byte-in-requires returns returns-2)
+pub two_spec : {M : Type 1} → statement M
+two_spec = tie.close (tie.spec byte-in-requires returns returns-2)

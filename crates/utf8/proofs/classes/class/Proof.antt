@@ -4,11 +4,11 @@ use borrow.Author.Rules.{rules}
 use Rattle.utf8.proofs.classes.class.Statement.{statement}
 use Rattle.utf8.proofs.classes.class.Tie as tie
 
-element-copy-out-result : tie.Need-element-copy-out-result
+element-copy-out-result : tie.Need-bounds-table-byte
 element-copy-out-result c = search rules
 
 returns : tie.Need-returns
 returns c = c.before.requires.entry c.before.args.byte (search rules)
 
-pub class-spec : {M : Type 1} → statement M
-class-spec = tie.close (tie.spec element-copy-out-result returns)
+pub class_spec : {M : Type 1} → statement M
+class_spec = tie.close (tie.spec element-copy-out-result returns)

@@ -1,16 +1,16 @@
 -- `validate::ascii::run_end` meets its contract: the bytes that the three steps pass are those of one run.
 -- Assumes nothing.
-use Rattle.core.specs.Prelude.{ℕ, ◌<◌, ◌≤◌, List, get_or}
+use Rattle.std.specs.Prelude.{ℕ, ◌<◌, ◌≤◌, List, get_or}
 use native.Mathlib.Decide.{dec_lt}
 use native.Mathlib.Omega.{arith}
 use borrow.Author.Rules.{rules}
 use Rattle.validate.proofs.ascii.run_end.Statement.{statement}
 use Rattle.validate.proofs.ascii.run_end.Tie as tie
 
-blocks-end-requires : tie.Need-blocks-end-requires
+blocks-end-requires : tie.Need-blocks_end-requires
 blocks-end-requires c κs = search rules
 
-blocks-end-requires-2 : tie.Need-blocks-end-requires-2
+blocks-end-requires-2 : tie.Need-blocks_end-requires-2
 blocks-end-requires-2 c κs = search rules
 
 passed-requires : tie.Need-passed-requires
@@ -26,10 +26,10 @@ joined s i m n a b k h l =
 
 returns : tie.Need-returns
 returns c =
-    let large = c.before.before.blocks-end in
-    let small = c.before.blocks-end2 in
+    let large = c.before.before.blocks_end in
+    let small = c.before.blocks_end-2 in
     let text = c.before.before.before.before.args.text.now in
     (omega arith, joined text _ _ _ (joined text _ _ _ large.ensures.1 small.ensures.1) c.passed.ensures.1)
 
-pub run-end-spec : {M : Type 1} → statement M
-run-end-spec = tie.close (tie.spec blocks-end-requires blocks-end-requires-2 passed-requires returns)
+pub run_end_spec : {M : Type 1} → statement M
+run_end_spec = tie.close (tie.spec blocks-end-requires blocks-end-requires-2 passed-requires returns)

@@ -1,6 +1,6 @@
 -- `validate::rule::starts_wrong` meets its contract: before the start of a text three zeros count as its bytes.
 -- Assumes nothing.
-use Rattle.core.specs.Prelude.{◌≡◌, ℕ, zero, suc, ◌<◌, true, false, List, get_or}
+use Rattle.std.specs.Prelude.{◌≡◌, ℕ, zero, suc, ◌<◌, true, false, List, get_or}
 use native.Mathlib.Omega.{arith}
 use borrow.Author.Rules.{rules}
 use Rattle.validate.specs.Rule.{right, right_at}
@@ -8,13 +8,13 @@ use Rattle.validate.proofs.RuleLaws.{or-false}
 use Rattle.validate.proofs.rule.starts_wrong.Statement.{statement}
 use Rattle.validate.proofs.rule.starts_wrong.Tie as tie
 
-shared-slice-read-first : tie.Need-shared-slice-read-first
+shared-slice-read-first : tie.Need-bounds-text-0
 shared-slice-read-first c = search rules
 
-shared-slice-read-second : tie.Need-shared-slice-read-second
+shared-slice-read-second : tie.Need-bounds-text-1
 shared-slice-read-second c = search rules
 
-shared-slice-read-third : tie.Need-shared-slice-read-third
+shared-slice-read-third : tie.Need-bounds-text-2
 shared-slice-read-third c = search rules
 
 wrong-requires : tie.Need-wrong-requires
@@ -39,10 +39,10 @@ returns : tie.Need-returns
 returns c e =
     let (both, third) = or-false _ _ e in
     let (first, second) = or-false _ _ both in
-    first_three _ (c.before.before.wrong.ensures first) (c.before.wrong2.ensures second) (c.wrong3.ensures third)
+    first_three _ (c.before.before.wrong.ensures first) (c.before.wrong-2.ensures second) (c.wrong-3.ensures third)
 
-pub starts-wrong-spec : {M : Type 1} → statement M
-starts-wrong-spec =
+pub starts_wrong_spec : {M : Type 1} → statement M
+starts_wrong_spec =
     tie.close
     (tie.spec
     shared-slice-read-first

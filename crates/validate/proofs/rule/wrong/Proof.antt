@@ -22,5 +22,5 @@ returns c e =
     (λ l. ltb-false byte 0xC2 (and-false _ _ low (le-leb _ _ l)))
     (leb-false 0xF5 byte high)
 
-pub wrong-spec : {M : Type 1} → statement M
-wrong-spec = tie.close (tie.spec returns)
+pub wrong_spec : {M : Type 1} → statement M
+wrong_spec = tie.close (tie.spec returns)

@@ -6,65 +6,65 @@ use Rattle.wire.proofs.NumberLaws.{little_endian-past, u32-halves, u32-bytes}
 use Rattle.wire.proofs.number.read_u32.Statement.{statement}
 use Rattle.wire.proofs.number.read_u32.Tie as tie
 
-returns : tie.Need-returns
-returns c = rw (little_endian-past, c.if1.true)
+returns : tie.Need-returns-then-bytes-offset
+returns c = rw (little_endian-past, c.if-bytes-offset.true)
 
-sub-if2 : tie.Need-overflow-sub-if2
+sub-if2 : tie.Need-overflow_sub-bytes
 sub-if2 c = search rules
 
-read-u16-requires : tie.Need-read-u16-requires
+read-u16-requires : tie.Need-read_u16-requires
 read-u16-requires c κs = search rules
 
-cast-result : tie.Need-overflow-cast-result
+cast-result : tie.Need-overflow_cast-result
 cast-result c = search rules
 
-add-read-u16 : tie.Need-overflow-add-read-u16
+add-read-u16 : tie.Need-overflow_add-offset
 add-read-u16 c = search rules
 
-read-u16-requires-2 : tie.Need-read-u16-requires-2
+read-u16-requires-2 : tie.Need-read_u16-requires-then-bytes-offset-lt4
 read-u16-requires-2 c κs = search rules
 
-cast-result-2 : tie.Need-overflow-cast-result-2
+cast-result-2 : tie.Need-overflow_cast-result-then-bytes-offset-lt4
 cast-result-2 c = search rules
 
-mul-result : tie.Need-overflow-mul-result
+mul-result : tie.Need-overflow_mul-result
 mul-result c = search rules
 
-add-result : tie.Need-overflow-add-result
+add-result : tie.Need-overflow_add-result
 add-result c = search rules
 
-returns-2 : tie.Need-returns-2
+returns-2 : tie.Need-returns-then-bytes-offset-lt4
 returns-2 c = omega (arith, u32-halves c.before.before.before.before.before.args.bytes.now c.before.before.before.before.before.args.offset)
 
-shared-slice-read-of-four : tie.Need-shared-slice-read-of-four
+shared-slice-read-of-four : tie.Need-bounds-bytes-offset
 shared-slice-read-of-four c = search rules
 
-add-of-four : tie.Need-overflow-add-of-four
+add-of-four : tie.Need-overflow_add-offset-2
 add-of-four c = search rules
 
-shared-slice-read-of-four-2 : tie.Need-shared-slice-read-of-four-2
+shared-slice-read-of-four-2 : tie.Need-bounds-bytes-offset-2
 shared-slice-read-of-four-2 c = search rules
 
-add-of-four-2 : tie.Need-overflow-add-of-four-2
+add-of-four-2 : tie.Need-overflow_add-offset-3
 add-of-four-2 c = search rules
 
-shared-slice-read-of-four-3 : tie.Need-shared-slice-read-of-four-3
+shared-slice-read-of-four-3 : tie.Need-bounds-bytes-offset-3
 shared-slice-read-of-four-3 c = search rules
 
-add-of-four-3 : tie.Need-overflow-add-of-four-3
+add-of-four-3 : tie.Need-overflow_add-offset-4
 add-of-four-3 c = search rules
 
-shared-slice-read-of-four-4 : tie.Need-shared-slice-read-of-four-4
+shared-slice-read-of-four-4 : tie.Need-bounds-bytes-offset-4
 shared-slice-read-of-four-4 c = search rules
 
-of-four-requires : tie.Need-of-four-requires
+of-four-requires : tie.Need-of_four-requires
 of-four-requires c κs = search rules
 
-returns-3 : tie.Need-returns-3
+returns-3 : tie.Need-returns
 returns-3 c = rw u32-bytes c.of_four.ensures
 
-pub read-u32-spec : {M : Type 1} → statement M
-read-u32-spec =
+pub read_u32_spec : {M : Type 1} → statement M
+read_u32_spec =
     tie.close
     (tie.spec
     returns

@@ -12,54 +12,54 @@ use Rattle.wire.proofs.Sets.{sets-past, sets-within}
 use Rattle.wire.proofs.number.write_u16.Statement.{statement}
 use Rattle.wire.proofs.number.write_u16.Tie as tie
 
-returns : tie.Need-returns
-returns c = rw (sets-past, c.if1.true)
+returns : tie.Need-returns-then-output-offset
+returns c = rw (sets-past, c.if-output-offset.true)
 
-sub-if2 : tie.Need-overflow-sub-if2
+sub-if2 : tie.Need-overflow_sub-output
 sub-if2 c = search rules
 
-cast-output : tie.Need-overflow-cast-output
+cast-output : tie.Need-overflow_cast-output
 cast-output c = search rules
 
-slice-write-output : tie.Need-slice-write-output
+slice-write-output : tie.Need-bounds-output-offset
 slice-write-output c = search rules
 
-same_length : tie.Need-same-length
+same_length : tie.Need-shape_of-output-then-output-offset-lt2
 same_length c = search rules
 
-returns-2 : tie.Need-returns-2
+returns-2 : tie.Need-returns-then-output-offset-lt2
 unfolding bytes_of
 returns-2 c =
     let v = c.before.before.args.value in
     sym (sets-within (v % 256 ∷ []) (bytes_of 1 (v / 256)) c.before.before.args.output.now c.before.before.args.offset (omega arith))
 
-cast-output-2 : tie.Need-overflow-cast-output-2
+cast-output-2 : tie.Need-overflow_cast-output-2
 cast-output-2 c = search rules
 
-slice-write-output-2 : tie.Need-slice-write-output-2
+slice-write-output-2 : tie.Need-bounds-output-offset-2
 slice-write-output-2 c = search rules
 
-cast-output-3 : tie.Need-overflow-cast-output-3
+cast-output-3 : tie.Need-overflow_cast-output-3
 cast-output-3 c = search rules
 
-add-output : tie.Need-overflow-add-output
+add-output : tie.Need-overflow_add-output
 add-output c = search rules
 
-slice-write-output-3 : tie.Need-slice-write-output-3
+slice-write-output-3 : tie.Need-bounds-output-offset-3
 slice-write-output-3 c = simp length-set (omega arith)
 
-same-length-2 : tie.Need-same-length-2
+same-length-2 : tie.Need-shape_of-output
 same-length-2 c = search rules
 
-returns-3 : tie.Need-returns-3
+returns-3 : tie.Need-returns
 unfolding bytes_of
 returns-3 c =
     let v = c.before.before.args.value in
     let top : v / 256 % 256 ≡ v / 256 = omega arith in
     cc (add-one c.before.before.args.offset)
 
-pub write-u16-spec : {M : Type 1} → statement M
-write-u16-spec =
+pub write_u16_spec : {M : Type 1} → statement M
+write_u16_spec =
     tie.close
     (tie.spec
     returns

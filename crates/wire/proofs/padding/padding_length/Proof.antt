@@ -7,10 +7,10 @@ use Rattle.wire.proofs.PaddingLaws.{padding-below}
 use Rattle.wire.proofs.padding.padding_length.Statement.{statement}
 use Rattle.wire.proofs.padding.padding_length.Tie as tie
 
-array-read-result : tie.Need-array-read-result
+array-read-result : tie.Need-bounds-length
 array-read-result c = search rules
 
-cast-result : tie.Need-overflow-cast-result
+cast-result : tie.Need-overflow_cast-result
 unfolding padding
 cast-result c = omega (arith, padding-below c.args.length)
 
@@ -18,5 +18,5 @@ returns : tie.Need-returns
 unfolding padding
 returns c = search rules
 
-pub padding-length-spec : {M : Type 1} → statement M
-padding-length-spec = tie.close (tie.spec array-read-result cast-result returns)
+pub padding_length_spec : {M : Type 1} → statement M
+padding_length_spec = tie.close (tie.spec array-read-result cast-result returns)

@@ -14,27 +14,27 @@ use Rattle.frames.proofs.EntryClosed.{entry-size, content-closed}
 use Rattle.write.proofs.entry.write_content.Statement.{statement}
 use Rattle.write.proofs.entry.write_content.Tie as tie
 
-add_start : tie.Need-overflow-add-start
+add_start : tie.Need-overflow_add-start
 add_start c = search rules
 
-write-bytes-requires : tie.Need-write-bytes-requires
+write-bytes-requires : tie.Need-write_bytes-requires
 write-bytes-requires c κs = search rules
 
-cast-close-content : tie.Need-overflow-cast-close-content
+cast-close-content : tie.Need-overflow_cast-at
 cast-close-content c = search rules
 
-add-close-content : tie.Need-overflow-add-close-content
+add-close-content : tie.Need-overflow_add-start-2
 add-close-content c = search rules
 
-cast-close-content-2 : tie.Need-overflow-cast-close-content-2
+cast-close-content-2 : tie.Need-overflow_cast-start
 cast-close-content-2 c =
     let t = c.before.before.before.before.before.before.before.args.text.now in
     omega (arith, length-content_entry t, le-aligned (12 + wire_size (length t)))
 
-close-content-requires : tie.Need-close-content-requires
+close-content-requires : tie.Need-close_content-requires
 close-content-requires c κs = search rules
 
-same_length : tie.Need-same-length
+same_length : tie.Need-shape_of-output
 same_length c = search rules
 
 returns : tie.Need-returns
@@ -43,12 +43,12 @@ returns c =
     let w = closed.before.before.before.before in
     let a = w.before.before.before.before.args in
     let t = a.text.now in (
-      closed.close-content.ensures.0 ∙ ap (λ (n : ℕ). a.at + n) (entry-size 12 [] refl t a.at refl ∙ ap length (sym (content-is t))),
-      rw (closed.close-content.ensures.1, w.write_bytes.ensures) (content-closed a.output.now a.at t refl),
+      closed.close_content.ensures.0 ∙ ap (λ (n : ℕ). a.at + n) (entry-size 12 [] refl t a.at refl ∙ ap length (sym (content-is t))),
+      rw (closed.close_content.ensures.1, w.write_bytes.ensures) (content-closed a.output.now a.at t refl),
     )
 
-pub write-content-spec : {M : Type 1} → statement M
-write-content-spec =
+pub write_content_spec : {M : Type 1} → statement M
+write_content_spec =
     tie.close
     (tie.spec
     add_start

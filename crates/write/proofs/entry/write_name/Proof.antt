@@ -15,28 +15,28 @@ use Rattle.frames.proofs.EntryClosed.{entry-size, name-closed}
 use Rattle.write.proofs.entry.write_name.Statement.{statement}
 use Rattle.write.proofs.entry.write_name.Tie as tie
 
-add_start : tie.Need-overflow-add-start
+add_start : tie.Need-overflow_add-start
 add_start c = search rules
 
-write-bytes-requires : tie.Need-write-bytes-requires
+write-bytes-requires : tie.Need-write_bytes-requires
 write-bytes-requires c κs = search rules
 
-cast-close-name : tie.Need-overflow-cast-close-name
+cast-close-name : tie.Need-overflow_cast-at
 cast-close-name c = search rules
 
-add-close-name : tie.Need-overflow-add-close-name
+add-close-name : tie.Need-overflow_add-start-2
 add-close-name c = search rules
 
-cast-close-name-2 : tie.Need-overflow-cast-close-name-2
+cast-close-name-2 : tie.Need-overflow_cast-start
 cast-close-name-2 c =
     let a = c.before.before.before.before.before.before.before.args in
     let n = name a.text.now a.content-size in
     omega (arith, length-name_entry n, le-aligned (16 + wire_size (length n.text)))
 
-close-name-requires : tie.Need-close-name-requires
+close-name-requires : tie.Need-close_name-requires
 close-name-requires c κs = search rules
 
-same_length : tie.Need-same-length
+same_length : tie.Need-shape_of-output
 same_length c = search rules
 
 returns : tie.Need-returns
@@ -46,12 +46,12 @@ returns c =
     let a = w.before.before.before.before.args in
     let s = a.content-size in
     let n = name a.text.now s in (
-      closed.close-name.ensures.0 ∙ ap (λ (m : ℕ). a.at + m) (entry-size 16 (u32 s) (name-header s) n.text a.at refl ∙ ap length (sym (name-is n))),
-      rw (closed.close-name.ensures.1, w.write_bytes.ensures) (name-closed a.output.now a.at n refl),
+      closed.close_name.ensures.0 ∙ ap (λ (m : ℕ). a.at + m) (entry-size 16 (u32 s) (name-header s) n.text a.at refl ∙ ap length (sym (name-is n))),
+      rw (closed.close_name.ensures.1, w.write_bytes.ensures) (name-closed a.output.now a.at n refl),
     )
 
-pub write-name-spec : {M : Type 1} → statement M
-write-name-spec =
+pub write_name_spec : {M : Type 1} → statement M
+write_name_spec =
     tie.close
     (tie.spec
     add_start

@@ -11,18 +11,18 @@ use Rattle.frames.specs.Entry.{pair}
 use Rattle.write.proofs.entry.write_pair.Statement.{statement}
 use Rattle.write.proofs.entry.write_pair.Tie as tie
 
-write-text-requires : tie.Need-write-text-requires
+write-text-requires : tie.Need-write_text-next-requires
 write-text-requires c κs =
     let start = c.before.before.before.before in
     omega (arith, length-pair_entry (pair start.args.key.now start.args.value.now), start.requires)
 
-write-text-requires-2 : tie.Need-write-text-requires-2
+write-text-requires-2 : tie.Need-write_text-requires
 write-text-requires-2 c κs =
     let w = c.before.before.before in
     let start = w.before.before.before.before.before in
-    omega (arith, w.write-text.ensures.0, length-pair_entry (pair start.args.key.now start.args.value.now), start.requires)
+    omega (arith, w.write_text-next.ensures.0, length-pair_entry (pair start.args.key.now start.args.value.now), start.requires)
 
-same_length : tie.Need-same-length
+same_length : tie.Need-shape_of-output
 same_length c = search rules
 
 returns : tie.Need-returns
@@ -33,12 +33,12 @@ returns c =
     let a = w.before.before.before.before.before.args in
     let key = a.key.now in
     let value = a.value.now in
-    let next = w.write-text.ensures.0 in (
-      omega (arith, second.write-text2.ensures.0, next, length-pair_entry (pair key value)),
-      rw (second.write-text2.ensures.1, w.write-text.ensures.1)
-          (sets-joined (terminate key) (terminate value) a.output.now a.at w.write-text.result (omega (arith, next, length-append key (0 ∷ [])))),
+    let next = w.write_text-next.ensures.0 in (
+      omega (arith, second.write_text.ensures.0, next, length-pair_entry (pair key value)),
+      rw (second.write_text.ensures.1, w.write_text-next.ensures.1)
+          (sets-joined (terminate key) (terminate value) a.output.now a.at w.write_text-next.result (omega (arith, next, length-append key (0 ∷ [])))),
     )
 
-pub write-pair-spec : {M : Type 1} → statement M
-write-pair-spec =
+pub write_pair_spec : {M : Type 1} → statement M
+write_pair_spec =
     tie.close (tie.spec write-text-requires write-text-requires-2 same_length returns)

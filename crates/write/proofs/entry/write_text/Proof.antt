@@ -10,19 +10,19 @@ use Rattle.wire.proofs.Sets.{sets-joined}
 use Rattle.write.proofs.entry.write_text.Statement.{statement}
 use Rattle.write.proofs.entry.write_text.Tie as tie
 
-write-bytes-requires : tie.Need-write-bytes-requires
+write-bytes-requires : tie.Need-write_bytes-requires
 write-bytes-requires c κs = search rules
 
-add-close-text : tie.Need-overflow-add-close-text
+add-close-text : tie.Need-overflow_add-at
 add-close-text c = search rules
 
-cast-close-text : tie.Need-overflow-cast-close-text
+cast-close-text : tie.Need-overflow_cast-at
 cast-close-text c = search rules
 
-close-text-requires : tie.Need-close-text-requires
+close-text-requires : tie.Need-close_text-requires
 close-text-requires c κs = search rules
 
-same_length : tie.Need-same-length
+same_length : tie.Need-shape_of-output
 same_length c = search rules
 
 returns : tie.Need-returns
@@ -31,12 +31,12 @@ returns c =
     let w = closed.before.before.before.before in
     let a = w.before.before.before.before.args in
     let t = a.text.now in (
-      omega (arith, closed.close-text.ensures.0),
-      rw (closed.close-text.ensures.1, w.write_bytes.ensures) (sets-joined t (0 ∷ []) a.output.now a.at (a.at + length t) refl),
+      omega (arith, closed.close_text.ensures.0),
+      rw (closed.close_text.ensures.1, w.write_bytes.ensures) (sets-joined t (0 ∷ []) a.output.now a.at (a.at + length t) refl),
     )
 
-pub write-text-spec : {M : Type 1} → statement M
-write-text-spec =
+pub write_text_spec : {M : Type 1} → statement M
+write_text_spec =
     tie.close
     (tie.spec
     write-bytes-requires

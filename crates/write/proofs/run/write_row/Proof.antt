@@ -7,113 +7,113 @@ use Rattle.write.specs.Run.{row_bytes}
 use Rattle.write.proofs.run.write_row.Statement.{statement}
 use Rattle.write.proofs.run.write_row.Tie as tie
 
-text-of-requires : tie.Need-text-of-requires
+text-of-requires : tie.Need-text_of-text-requires
 text-of-requires c κs = search rules
 
-enum_told : tie.Need-enum-told
+enum_told : tie.Need-enum_told-1
 enum_told c = search rules
 
-write-content-requires : tie.Need-write-content-requires
+write-content-requires : tie.Need-write_content-requires
 unfolding row_bytes
 write-content-requires c κs =
-    let text = c.before.before.before.text_of in
+    let text = c.before.before.before.text_of-text in
     let start = c.before.before.before.before.before.before.before in
-    rw text.ensures (rw c.before.enum_told.given.1 at start.requires)
+    rw text.ensures (rw c.before.enum_told-1.given.1 at start.requires)
 
-enum-told-2 : tie.Need-enum-told-2
+enum-told-2 : tie.Need-enum_told-in-Name
 enum-told-2 c = search rules
 
-write-name-requires : tie.Need-write-name-requires
+write-name-requires : tie.Need-write_name-requires
 unfolding row_bytes
 write-name-requires c κs =
-    let text = c.before.before.before.text_of in
+    let text = c.before.before.before.text_of-text in
     let start = c.before.before.before.before.before.before.before in
-    rw text.ensures (rw c.before.enum-told2.given.1 at start.requires)
+    rw text.ensures (rw c.before.enum_told-in-Name-1.given.1 at start.requires)
 
-enum-told-3 : tie.Need-enum-told-3
+enum-told-3 : tie.Need-enum_told-in-Pair
 enum-told-3 c = search rules
 
-text-of-requires-2 : tie.Need-text-of-requires-2
+text-of-requires-2 : tie.Need-text_of-value-requires
 text-of-requires-2 c κs = search rules
 
-write-pair-requires : tie.Need-write-pair-requires
+write-pair-requires : tie.Need-write_pair-requires
 unfolding row_bytes
 write-pair-requires c κs =
-    let text = c.before.before.before.before.text_of in
+    let text = c.before.before.before.before.text_of-text in
     let start = c.before.before.before.before.before.before.before.before in
-    rw (text.ensures, c.before.text-of2.ensures) (rw c.before.before.enum-told3.given.1 at start.requires)
+    rw (text.ensures, c.before.text_of-value.ensures) (rw c.before.before.enum_told-in-Pair-1.given.1 at start.requires)
 
-enum-told-4 : tie.Need-enum-told-4
+enum-told-4 : tie.Need-enum_told-in-PlainContents
 enum-told-4 c = search rules
 
-enum-told-5 : tie.Need-enum-told-5
+enum-told-5 : tie.Need-enum_told-in-PackedContents
 enum-told-5 c = search rules
 
-enum-told-6 : tie.Need-enum-told-6
+enum-told-6 : tie.Need-enum_told-in-Names
 enum-told-6 c = search rules
 
-enum-told-7 : tie.Need-enum-told-7
+enum-told-7 : tie.Need-enum_told-in-Arguments
 enum-told-7 c = search rules
 
-enum-told-8 : tie.Need-enum-told-8
+enum-told-8 : tie.Need-enum_told-in-Unknown
 enum-told-8 c = search rules
 
-enum-told-9 : tie.Need-enum-told-9
+enum-told-9 : tie.Need-enum_told-in-None
 enum-told-9 c = search rules
 
-same_length : tie.Need-same-length
+same_length : tie.Need-shape_of-output-in-Content
 same_length c = search rules
 
-returns : tie.Need-returns
+returns : tie.Need-returns-in-Content
 unfolding row_bytes
 returns c =
     let w = c.before.before in
-    rw (w.before.before.enum_told.given.1, ← w.before.before.before.before.text_of.ensures) w.write-content.ensures
+    rw (w.before.before.enum_told-1.given.1, ← w.before.before.before.before.text_of-text.ensures) w.write_content.ensures
 
-same-length-2 : tie.Need-same-length-2
+same-length-2 : tie.Need-shape_of-output-in-Name
 same-length-2 c = search rules
 
-returns-2 : tie.Need-returns-2
+returns-2 : tie.Need-returns-in-Name
 unfolding row_bytes
 returns-2 c =
     let w = c.before.before in
-    rw (w.before.before.enum-told2.given.1, ← w.before.before.before.before.text_of.ensures) w.write-name.ensures
+    rw (w.before.before.enum_told-in-Name-1.given.1, ← w.before.before.before.before.text_of-text.ensures) w.write_name.ensures
 
-same-length-3 : tie.Need-same-length-3
+same-length-3 : tie.Need-shape_of-output-in-Pair
 same-length-3 c = search rules
 
-returns-3 : tie.Need-returns-3
+returns-3 : tie.Need-returns-in-Pair
 unfolding row_bytes
 returns-3 c =
     let w = c.before.before in
-    rw (w.before.before.before.enum-told3.given.1, ← w.before.before.before.before.before.text_of.ensures, ← w.before.before.text-of2.ensures) w.write-pair.ensures
+    rw (w.before.before.before.enum_told-in-Pair-1.given.1, ← w.before.before.before.before.before.text_of-text.ensures, ← w.before.before.text_of-value.ensures) w.write_pair.ensures
 
-returns-4 : tie.Need-returns-4
+returns-4 : tie.Need-returns-in-PlainContents
 unfolding row_bytes
-returns-4 c = rw c.enum-told4.given.1 (omega arith, refl)
+returns-4 c = rw c.enum_told-in-PlainContents-1.given.1 (omega arith, refl)
 
-returns-5 : tie.Need-returns-5
+returns-5 : tie.Need-returns-in-PackedContents
 unfolding row_bytes
-returns-5 c = rw c.enum-told5.given.1 (omega arith, refl)
+returns-5 c = rw c.enum_told-in-PackedContents-1.given.1 (omega arith, refl)
 
-returns-6 : tie.Need-returns-6
+returns-6 : tie.Need-returns-in-Names
 unfolding row_bytes
-returns-6 c = rw c.enum-told6.given.1 (omega arith, refl)
+returns-6 c = rw c.enum_told-in-Names-1.given.1 (omega arith, refl)
 
-returns-7 : tie.Need-returns-7
+returns-7 : tie.Need-returns-in-Arguments
 unfolding row_bytes
-returns-7 c = rw c.enum-told7.given.1 (omega arith, refl)
+returns-7 c = rw c.enum_told-in-Arguments-1.given.1 (omega arith, refl)
 
-returns-8 : tie.Need-returns-8
+returns-8 : tie.Need-returns-in-Unknown
 unfolding row_bytes
-returns-8 c = rw c.enum-told8.given.1 (omega arith, refl)
+returns-8 c = rw c.enum_told-in-Unknown-1.given.1 (omega arith, refl)
 
-returns-9 : tie.Need-returns-9
+returns-9 : tie.Need-returns-in-None
 unfolding row_bytes
-returns-9 c = rw c.enum-told9.given.1 (omega arith, refl)
+returns-9 c = rw c.enum_told-in-None-1.given.1 (omega arith, refl)
 
-pub write-row-spec : {M : Type 1} → statement M
-write-row-spec =
+pub write_row_spec : {M : Type 1} → statement M
+write_row_spec =
     tie.close
     (tie.spec
     text-of-requires

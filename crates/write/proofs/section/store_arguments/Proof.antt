@@ -20,7 +20,7 @@ use Rattle.write.proofs.section.store_arguments.Statement.{statement}
 use Rattle.write.proofs.section.store_arguments.Tie as tie
 
 -- the section, where its run is about to be stored
-module _ (c : tie.After-write-run-arg) where
+module _ (c : tie.After-write_run-arg-1) where
   abbrev s : tie.Start
   s = c.before.before.before.before.before.before
 
@@ -48,33 +48,33 @@ module _ (c : tie.After-write-run-arg) where
   small : p.at + 20 + length bytes ≤ limit
   small = within parts p.at refl s.pre.4
 
-add-first : tie.Need-overflow-add-first
+add-first : tie.Need-overflow_add-first
 add-first c = omega (arith, length-rows_of c.before.before.before.before.before.args.rows.now)
 
-add-pairs : tie.Need-overflow-add-pairs
+add-pairs : tie.Need-overflow_add-pairs
 add-pairs c = search rules
 
-write-run-requires : tie.Need-write-run-requires
+write-run-requires : tie.Need-write_run-run-requires
 write-run-requires c κs = (omega arith, small c)
 
-cast-close-arguments : tie.Need-overflow-cast-close-arguments
+cast-close-arguments : tie.Need-overflow_cast-start
 cast-close-arguments c = search rules
 
-cast-close-arguments-2 : tie.Need-overflow-cast-close-arguments-2
+cast-close-arguments-2 : tie.Need-overflow_cast-end
 cast-close-arguments-2 c = omega (arith, small c.before.before.before.before)
 
-sub-close-arguments : tie.Need-overflow-sub-close-arguments
+sub-close-arguments : tie.Need-overflow_sub-index
 sub-close-arguments c = search rules
 
-cast-close-arguments-3 : tie.Need-overflow-cast-close-arguments-3
+cast-close-arguments-3 : tie.Need-overflow_cast-index
 cast-close-arguments-3 c =
     let w = c.before.before.before.before in
     omega (arith, small w, pairs-many (payload w) (edit w) (rest w))
 
-close-arguments-requires : tie.Need-close-arguments-requires
+close-arguments-requires : tie.Need-close_arguments-at-requires
 close-arguments-requires c κs = search rules
 
-same_length : tie.Need-same-length
+same_length : tie.Need-shape_of-output
 same_length c = search rules
 
 returns : tie.Need-returns
@@ -82,13 +82,13 @@ returns c =
     let closed = c.before.before in
     let run = closed.before.before.before.before in
     let w = run.before in
-    let count : run.write-run.result.index - ((p w).index + 1) ≡ entry_count Pair (rest w) = omega arith in
-    told (payload w) (edit w) (rows w) (p w) (s w).requires.1 (parts w) run.write-run.ensures.1.0 (s w).args.output.now
-    run.write-run.ensures.0
-    (rw (run.write-run.ensures.1.1, count) at closed.close-arguments.ensures)
+    let count : run.write_run-run.result.index - ((p w).index + 1) ≡ entry_count Pair (rest w) = omega arith in
+    told (payload w) (edit w) (rows w) (p w) (s w).requires.1 (parts w) run.write_run-run.ensures.1.0 (s w).args.output.now
+    run.write_run-run.ensures.0
+    (rw (run.write_run-run.ensures.1.1, count) at closed.close_arguments-at.ensures)
 
-pub store-arguments-spec : {M : Type 1} → statement M
-store-arguments-spec =
+pub store_arguments_spec : {M : Type 1} → statement M
+store_arguments_spec =
     tie.close
     (tie.spec
     add-first

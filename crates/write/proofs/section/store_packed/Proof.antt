@@ -17,7 +17,7 @@ use Rattle.write.proofs.section.store_packed.Statement.{statement}
 use Rattle.write.proofs.section.store_packed.Tie as tie
 
 -- the section, where its stream is known
-module _ (c : tie.After-bytes-of) where
+module _ (c : tie.After-bytes_of-stream) where
   abbrev s : tie.Start
   s = c.before.before.before.before.before.before.before
 
@@ -36,43 +36,43 @@ module _ (c : tie.After-bytes-of) where
   parts : Packed payload edit rows p.index
   parts = packed-parts payload edit rows p.index s.pre.1
 
-  bytes : c.bytes_of.result.now ≡ own payload edit rows p.index
-  bytes = rw c.before.before.load.ensures at c.bytes_of.ensures
+  bytes : c.bytes_of-stream.result.now ≡ own payload edit rows p.index
+  bytes = rw c.before.before.load-row.ensures at c.bytes_of-stream.ensures
 
   abbrev end : ℕ
-  end = p.at + 28 + length c.bytes_of.result.now
+  end = p.at + 28 + length c.bytes_of-stream.result.now
 
   small : end ≤ limit
   small = within parts p.at (ap (λ (l : List ℕ). p.at + 28 + length l) bytes) s.pre.4
 
-load-requires : tie.Need-load-requires
+load-requires : tie.Need-load-row-requires
 load-requires c κs = search rules
 
-add-index : tie.Need-overflow-add-index
+add-index : tie.Need-overflow_add-index
 add-index c = omega (arith, length-rows_of c.before.before.before.before.before.before.args.rows.now)
 
-bytes-of-requires : tie.Need-bytes-of-requires
+bytes-of-requires : tie.Need-bytes_of-stream-requires
 bytes-of-requires c κs = search rules
 
-add-stored : tie.Need-overflow-add-stored
+add-stored : tie.Need-overflow_add-stored
 add-stored c = search rules
 
-write-bytes-requires : tie.Need-write-bytes-requires
+write-bytes-requires : tie.Need-write_bytes-requires
 write-bytes-requires c κs = search rules
 
-cast-close-contents : tie.Need-overflow-cast-close-contents
+cast-close-contents : tie.Need-overflow_cast-start
 cast-close-contents c = search rules
 
-add-close-contents : tie.Need-overflow-add-close-contents
+add-close-contents : tie.Need-overflow_add-stored-2
 add-close-contents c = search rules
 
-cast-close-contents-2 : tie.Need-overflow-cast-close-contents-2
+cast-close-contents-2 : tie.Need-overflow_cast-stored
 cast-close-contents-2 c = omega (arith, small c.before.before.before.before.before)
 
-close-contents-requires : tie.Need-close-contents-requires
+close-contents-requires : tie.Need-close_contents-at-requires
 close-contents-requires c κs = search rules
 
-same_length : tie.Need-same-length
+same_length : tie.Need-shape_of-output
 same_length c = search rules
 
 returns : tie.Need-returns
@@ -82,10 +82,10 @@ returns c =
     let b = stored.before.before in
     told (payload b) (edit b) (rows b) (p b) (s b).requires.1 (parts b) refl (s b).args.output.now
     (sym (add-zero _))
-    (rw (b.before.before.load.ensures, stored.write_bytes.ensures, bytes b) at closed.close-contents.ensures)
+    (rw (b.before.before.load-row.ensures, stored.write_bytes.ensures, bytes b) at closed.close_contents-at.ensures)
 
-pub store-packed-spec : {M : Type 1} → statement M
-store-packed-spec =
+pub store_packed_spec : {M : Type 1} → statement M
+store_packed_spec =
     tie.close
     (tie.spec
     load-requires

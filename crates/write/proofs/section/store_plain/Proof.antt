@@ -20,7 +20,7 @@ use Rattle.write.proofs.section.store_plain.Statement.{statement}
 use Rattle.write.proofs.section.store_plain.Tie as tie
 
 -- the section, where its run is about to be stored
-module _ (c : tie.After-write-run-arg) where
+module _ (c : tie.After-write_run-arg-1) where
   abbrev s : tie.Start
   s = c.before.before.before.before.before.before.before
 
@@ -48,42 +48,42 @@ module _ (c : tie.After-write-run-arg) where
   small : p.at + 28 + length bytes ≤ limit
   small = within parts p.at refl s.pre.4
 
-load-requires : tie.Need-load-requires
+load-requires : tie.Need-load-row-requires
 load-requires c κs = search rules
 
-add-first : tie.Need-overflow-add-first
+add-first : tie.Need-overflow_add-first
 add-first c = omega (arith, length-rows_of c.before.before.before.before.before.before.args.rows.now)
 
-add-entries : tie.Need-overflow-add-entries
+add-entries : tie.Need-overflow_add-entries
 add-entries c = search rules
 
-write-run-requires : tie.Need-write-run-requires
+write-run-requires : tie.Need-write_run-run-requires
 write-run-requires c κs = (omega arith, small c)
 
-cast-close-contents : tie.Need-overflow-cast-close-contents
+cast-close-contents : tie.Need-overflow_cast-start
 cast-close-contents c = search rules
 
-cast-close-contents-2 : tie.Need-overflow-cast-close-contents-2
+cast-close-contents-2 : tie.Need-overflow_cast-end
 cast-close-contents-2 c = omega (arith, small c.before.before.before.before)
 
-sub-close-contents : tie.Need-overflow-sub-close-contents
+sub-close-contents : tie.Need-overflow_sub-end
 sub-close-contents c = search rules
 
-cast-close-contents-3 : tie.Need-overflow-cast-close-contents-3
+cast-close-contents-3 : tie.Need-overflow_cast-end-2
 cast-close-contents-3 c = omega (arith, small c.before.before.before.before)
 
-sub-close-contents-2 : tie.Need-overflow-sub-close-contents-2
+sub-close-contents-2 : tie.Need-overflow_sub-index
 sub-close-contents-2 c = search rules
 
-cast-close-contents-4 : tie.Need-overflow-cast-close-contents-4
+cast-close-contents-4 : tie.Need-overflow_cast-index
 cast-close-contents-4 c =
     let w = c.before.before.before.before in
     omega (arith, small w, contents-many (payload w) (edit w) (rest w))
 
-close-contents-requires : tie.Need-close-contents-requires
+close-contents-requires : tie.Need-close_contents-at-requires
 close-contents-requires c κs = search rules
 
-same_length : tie.Need-same-length
+same_length : tie.Need-shape_of-output
 same_length c = search rules
 
 returns : tie.Need-returns
@@ -91,13 +91,13 @@ returns c =
     let closed = c.before.before in
     let run = closed.before.before.before.before in
     let w = run.before in
-    let count : run.write-run.result.index - ((p w).index + 1) ≡ entry_count Content (rest w) = omega arith in
-    told (payload w) (edit w) (rows w) (p w) (s w).requires.1 (parts w) run.write-run.ensures.1.0 (s w).args.output.now
-    run.write-run.ensures.0
-    (rw (w.before.before.load.ensures, run.write-run.ensures.1.1, count) at closed.close-contents.ensures)
+    let count : run.write_run-run.result.index - ((p w).index + 1) ≡ entry_count Content (rest w) = omega arith in
+    told (payload w) (edit w) (rows w) (p w) (s w).requires.1 (parts w) run.write_run-run.ensures.1.0 (s w).args.output.now
+    run.write_run-run.ensures.0
+    (rw (w.before.before.load-row.ensures, run.write_run-run.ensures.1.1, count) at closed.close_contents-at.ensures)
 
-pub store-plain-spec : {M : Type 1} → statement M
-store-plain-spec =
+pub store_plain_spec : {M : Type 1} → statement M
+store_plain_spec =
     tie.close
     (tie.spec
     load-requires

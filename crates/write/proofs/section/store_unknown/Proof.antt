@@ -18,7 +18,7 @@ use Rattle.write.proofs.section.store_unknown.Statement.{statement}
 use Rattle.write.proofs.section.store_unknown.Tie as tie
 
 -- the section, where what it stores is known
-module _ (c : tie.After-bytes-of) where
+module _ (c : tie.After-bytes_of-bytes) where
   abbrev s : tie.Start
   s = c.before.before.before.before.before.before.before
 
@@ -37,48 +37,48 @@ module _ (c : tie.After-bytes-of) where
   parts : Unknown payload edit rows p.index
   parts = unknown-parts payload edit rows p.index s.pre.1
 
-  bytes : c.bytes_of.result.now ≡ own payload edit rows p.index
-  bytes = rw c.before.before.load.ensures at c.bytes_of.ensures
+  bytes : c.bytes_of-bytes.result.now ≡ own payload edit rows p.index
+  bytes = rw c.before.before.load-row.ensures at c.bytes_of-bytes.ensures
 
   abbrev end : ℕ
-  end = p.at + 8 + length c.bytes_of.result.now
+  end = p.at + 8 + length c.bytes_of-bytes.result.now
 
   small : end ≤ limit
   small = within parts p.at (ap (λ (l : List ℕ). p.at + 8 + length l) bytes) s.pre.4
 
-load-requires : tie.Need-load-requires
+load-requires : tie.Need-load-row-requires
 load-requires c κs = search rules
 
-add-index : tie.Need-overflow-add-index
+add-index : tie.Need-overflow_add-index
 add-index c = omega (arith, length-rows_of c.before.before.before.before.before.before.args.rows.now)
 
-bytes-of-requires : tie.Need-bytes-of-requires
+bytes-of-requires : tie.Need-bytes_of-bytes-requires
 bytes-of-requires c κs = search rules
 
-add-stored : tie.Need-overflow-add-stored
+add-stored : tie.Need-overflow_add-stored
 add-stored c = search rules
 
-write-bytes-requires : tie.Need-write-bytes-requires
+write-bytes-requires : tie.Need-write_bytes-requires
 write-bytes-requires c κs = search rules
 
-cast-close-section : tie.Need-overflow-cast-close-section
+cast-close-section : tie.Need-overflow_cast-start
 cast-close-section c = search rules
 
-add-close-section : tie.Need-overflow-add-close-section
+add-close-section : tie.Need-overflow_add-stored-2
 add-close-section c = search rules
 
-cast-close-section-2 : tie.Need-overflow-cast-close-section-2
+cast-close-section-2 : tie.Need-overflow_cast-stored
 cast-close-section-2 c = omega (arith, small c.before.before.before.before.before)
 
-cast-t21 : tie.Need-overflow-cast-t21
+cast-t21 : tie.Need-overflow_cast-row
 cast-t21 c =
     let b = c.before.before.before.before.before.before in
-    omega (arith, (s b).requires.2, ap kind_number (parts b).kinded, ap (λ (r : Row). r.a) b.before.before.load.ensures)
+    omega (arith, (s b).requires.2, ap kind_number (parts b).kinded, ap (λ (r : Row). r.a) b.before.before.load-row.ensures)
 
-close-section-requires : tie.Need-close-section-requires
+close-section-requires : tie.Need-close_section-at-requires
 close-section-requires c κs = search rules
 
-same_length : tie.Need-same-length
+same_length : tie.Need-shape_of-output
 same_length c = search rules
 
 returns : tie.Need-returns
@@ -88,10 +88,10 @@ returns c =
     let b = stored.before.before in
     told (payload b) (edit b) (rows b) (p b) (s b).requires.1 (parts b) refl (s b).args.output.now
     (sym (add-zero _))
-    (rw (b.before.before.load.ensures, stored.write_bytes.ensures, bytes b) at closed.close-section.ensures)
+    (rw (b.before.before.load-row.ensures, stored.write_bytes.ensures, bytes b) at closed.close_section-at.ensures)
 
-pub store-unknown-spec : {M : Type 1} → statement M
-store-unknown-spec =
+pub store_unknown_spec : {M : Type 1} → statement M
+store_unknown_spec =
     tie.close
     (tie.spec
     load-requires

@@ -12,5 +12,5 @@ load-requires c κs = search rules
 returns : tie.Need-returns
 returns c = ap (λ (r : Row). r.tag) c.load.ensures
 
-pub tag-at-spec : {M : Type 1} → statement M
-tag-at-spec = tie.close (tie.spec load-requires returns)
+pub tag_at_spec : {M : Type 1} → statement M
+tag_at_spec = tie.close (tie.spec load-requires returns)

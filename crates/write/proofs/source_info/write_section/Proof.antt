@@ -277,9 +277,9 @@ module _ {M : Type 1} {𝓤 : Ura M} (𝓛 : Logic 𝓤) (mem' : Memory → SPro
       (Goes-none_slice 𝓛 4 (0 ∷ []) tt (plain (λ _. u8)) yes, (Goes-none_slice 𝓛 4 (0 ∷ []) tt (plain (λ _. u8)) yes, (Goes-none_slice 𝓛 4 (1 ∷ []) tt (plain (λ _. u32)) yes, (Goes-gave_slice 𝓛 4 2 tt (plain (λ _. u8)), (Goes-gave_ref 𝓛 4 3 tt (plain (λ _. R)), (Goes-none 𝓛 4 (λ _. u32) yes (λ κs x f. refl), tt))))))
       (section.clauses 𝓛 mem' run) (WpFn 𝓤 H 𝓣.C 𝓣.Λ code.function) (WpFn-mono 𝓤 H 𝓛.laws 𝓣 code.function) (section-walks 𝓣.C 𝓣.Λ (fm_of 𝓤 H 𝓛.laws 𝓣) known)
 
-pub write-section-spec : {M : Type 1} → statement M
+pub write_section_spec : {M : Type 1} → statement M
 unfolding code.routine tables_of
-write-section-spec 𝓤 𝓛 𝓜 𝓡 =
+write_section_spec 𝓤 𝓛 𝓜 𝓡 =
     entered 𝓤 𝓛.H (triple_of 𝓛 section.signature (section.spec 𝓛 𝓜.mem 𝓡.run))
     (tables 𝓤 𝓛.H 𝓜 𝓡 code.env).C (tables 𝓤 𝓛.H 𝓜 𝓡 code.env).Λ #write-section code.function (code.unfolded 𝓤 𝓛.H 𝓜 𝓡)
     (section-meets 𝓛 𝓜.mem 𝓡.run (tables_of 𝓤 𝓛.H 𝓜 (tables 𝓤 𝓛.H 𝓜 𝓡 code.env)) (

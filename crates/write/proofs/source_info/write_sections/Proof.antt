@@ -318,9 +318,9 @@ module _ {M : Type 1} {𝓤 : Ura M} (𝓛 : Logic 𝓤) (mem' : Memory → SPro
       (Goes-none_slice 𝓛 3 (0 ∷ []) tt (plain (λ _. u8)) yes, (Goes-none_slice 𝓛 3 (0 ∷ []) tt (plain (λ _. u8)) yes, (Goes-none_slice 𝓛 3 (1 ∷ []) tt (plain (λ _. u32)) yes, (Goes-slice 𝓛 3 2 tt (plain (λ _. u8)), tt))))
       (sections.clauses 𝓛 mem' run) (WpFn 𝓤 H 𝓣.C 𝓣.Λ code.function) (WpFn-mono 𝓤 H 𝓛.laws 𝓣 code.function) sections-walks
 
-pub write-sections-spec : {M : Type 1} → statement M
+pub write_sections_spec : {M : Type 1} → statement M
 unfolding code.routine tables_of
-write-sections-spec 𝓤 𝓛 𝓜 𝓡 =
+write_sections_spec 𝓤 𝓛 𝓜 𝓡 =
     entered 𝓤 𝓛.H (triple_of 𝓛 sections.signature (sections.spec 𝓛 𝓜.mem 𝓡.run))
     (tables 𝓤 𝓛.H 𝓜 𝓡 code.env).C (tables 𝓤 𝓛.H 𝓜 𝓡 code.env).Λ #write-sections code.function (code.unfolded 𝓤 𝓛.H 𝓜 𝓡)
     (sections-meets 𝓛 𝓜.mem 𝓡.run (tables_of 𝓤 𝓛.H 𝓜 (tables 𝓤 𝓛.H 𝓜 𝓡 code.env))

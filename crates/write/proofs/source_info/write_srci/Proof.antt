@@ -7,19 +7,19 @@ use Rattle.format.proofs.MainHeader.{payload-stored}
 use Rattle.write.proofs.source_info.write_srci.Statement.{statement}
 use Rattle.write.proofs.source_info.write_srci.Tie as tie
 
-write-sections-requires : tie.Need-write-sections-requires
+write-sections-requires : tie.Need-write_sections-sections-requires
 write-sections-requires c κs = search rules
 
-write-u32-requires : tie.Need-write-u32-requires
+write-u32-requires : tie.Need-write_u32-requires
 write-u32-requires c κs = search rules
 
-write-u16-requires : tie.Need-write-u16-requires
+write-u16-requires : tie.Need-write_u16-requires
 write-u16-requires c κs = search rules
 
-write-u16-requires-2 : tie.Need-write-u16-requires-2
+write-u16-requires-2 : tie.Need-write_u16-requires-2
 write-u16-requires-2 c κs = search rules
 
-same_length : tie.Need-same-length
+same_length : tie.Need-shape_of-output
 same_length c = search rules
 
 returns : tie.Need-returns
@@ -29,8 +29,8 @@ returns c =
     let ss = sections_of a.payload.now a.edit.now (rows_of a.rows.now) in
     cc (payload-stored ss a.output.now a.size s.requires.1)
 
-pub write-srci-spec : {M : Type 1} → statement M
-write-srci-spec =
+pub write_srci_spec : {M : Type 1} → statement M
+write_srci_spec =
     tie.close
     (tie.spec
     write-sections-requires

@@ -13,9 +13,9 @@ use Rattle.write.specs.contracts.writers.write_arguments as writer
 use Rattle.write.proofs.writers.write_arguments.Statement.{statement}
 use Rattle.write.proofs.writers.write_arguments.Code as code
 
-pub write-arguments-spec : {M : Type 1} → statement M
+pub write_arguments_spec : {M : Type 1} → statement M
 unfolding code.routine tables_of
-write-arguments-spec 𝓤 𝓛 𝓜 𝓡 =
+write_arguments_spec 𝓤 𝓛 𝓜 𝓡 =
     entered 𝓤 𝓛.H (triple_of 𝓛 writer.signature (writer.spec 𝓛 𝓜.mem 𝓡.run))
     (tables 𝓤 𝓛.H 𝓜 𝓡 code.env).C (tables 𝓤 𝓛.H 𝓜 𝓡 code.env).Λ #write-arguments code.function (code.unfolded 𝓤 𝓛.H 𝓜 𝓡)
     (moving-meets 𝓛 Arguments #store-arguments (tables_of 𝓤 𝓛.H 𝓜 (tables 𝓤 𝓛.H 𝓜 𝓡 code.env))

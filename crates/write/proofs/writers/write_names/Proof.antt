@@ -13,9 +13,9 @@ use Rattle.write.specs.contracts.writers.write_names as writer
 use Rattle.write.proofs.writers.write_names.Statement.{statement}
 use Rattle.write.proofs.writers.write_names.Code as code
 
-pub write-names-spec : {M : Type 1} → statement M
+pub write_names_spec : {M : Type 1} → statement M
 unfolding code.routine tables_of
-write-names-spec 𝓤 𝓛 𝓜 𝓡 =
+write_names_spec 𝓤 𝓛 𝓜 𝓡 =
     entered 𝓤 𝓛.H (triple_of 𝓛 writer.signature (writer.spec 𝓛 𝓜.mem 𝓡.run))
     (tables 𝓤 𝓛.H 𝓜 𝓡 code.env).C (tables 𝓤 𝓛.H 𝓜 𝓡 code.env).Λ #write-names code.function (code.unfolded 𝓤 𝓛.H 𝓜 𝓡)
     (moving-meets 𝓛 Names #store-names (tables_of 𝓤 𝓛.H 𝓜 (tables 𝓤 𝓛.H 𝓜 𝓡 code.env))

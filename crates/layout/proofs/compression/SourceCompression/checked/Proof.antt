@@ -5,11 +5,11 @@ use Rattle.layout.proofs.Unknown.{not_plain}
 use Rattle.layout.proofs.compression.SourceCompression.checked.Statement.{statement}
 use Rattle.layout.proofs.compression.SourceCompression.checked.Tie as tie
 
-returns : tie.Need-returns
+returns : tie.Need-returns-in-0
 returns c = search rules
 
-returns-2 : tie.Need-returns-2
-returns-2 c = sym (not_plain c.before.args.value c.match.rest.1)
+returns-2 : tie.Need-returns-in_default
+returns-2 c = sym (not_plain c.before.args.value c.in_default.in_default-own.rest.1)
 
-pub checked-spec : {M : Type 1} → statement M
-checked-spec = tie.close (tie.spec returns returns-2)
+pub checked_spec : {M : Type 1} → statement M
+checked_spec = tie.close (tie.spec returns returns-2)

@@ -7,14 +7,14 @@ use Rattle.layout.proofs.Unknown.{compression-unknown}
 use Rattle.layout.proofs.compression.SourceCompression.from_u16.Statement.{statement}
 use Rattle.layout.proofs.compression.SourceCompression.from_u16.Tie as tie
 
-returns : tie.Need-returns
-returns c = sym (ap compression c.match.keys1)
+returns : tie.Need-returns-in-0
+returns c = sym (ap compression c.in-0.is)
 
-returns-2 : tie.Need-returns-2
-returns-2 c = sym (ap compression c.match.keys2)
+returns-2 : tie.Need-returns-in-1
+returns-2 c = sym (ap compression c.in-1.is)
 
-returns-3 : tie.Need-returns-3
-returns-3 c = sym (compression-unknown c.before.args.value (omega (arith, c.match.rest.0.1, c.match.rest.1)))
+returns-3 : tie.Need-returns-in_default
+returns-3 c = sym (compression-unknown c.before.args.value (omega (arith, c.in_default.in_default-own.rest.0.1, c.in_default.in_default-own.rest.1)))
 
-pub from-u16-spec : {M : Type 1} → statement M
-from-u16-spec = tie.close (tie.spec returns returns-2 returns-3)
+pub from_u16_spec : {M : Type 1} → statement M
+from_u16_spec = tie.close (tie.spec returns returns-2 returns-3)

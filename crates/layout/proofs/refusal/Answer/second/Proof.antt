@@ -5,20 +5,20 @@ use Rattle.layout.specs.Refusals.{answer_second}
 use Rattle.layout.proofs.refusal.Answer.second.Statement.{statement}
 use Rattle.layout.proofs.refusal.Answer.second.Tie as tie
 
-enum-known-self : tie.Need-enum-known-self
+enum-known-self : tie.Need-enum_known-self
 enum-known-self c = search rules
 
-enum-known-self-2 : tie.Need-enum-known-self-2
+enum-known-self-2 : tie.Need-enum_known-self-in-Refused-1
 enum-known-self-2 c = search rules
 
 second-requires : tie.Need-second-requires
 second-requires c κs = search rules
 
-returns : tie.Need-returns
+returns : tie.Need-returns-in-Accepted
 returns c = search rules
 
-returns-2 : tie.Need-returns-2
-returns-2 c = c.second.ensures ∙ sym (ap answer_second c.before.before.self2.given.1)
+returns-2 : tie.Need-returns-in-Refused
+returns-2 c = c.second.ensures ∙ sym (ap answer_second c.before.before.self-in-Refused-1.given.1)
 
 pub second_spec : {M : Type 1} → statement M
 second_spec = tie.close (tie.spec enum-known-self enum-known-self-2 second-requires returns returns-2)

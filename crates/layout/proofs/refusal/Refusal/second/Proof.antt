@@ -43,10 +43,10 @@ pub second_spec : {M : Type 1} → statement M
 second_spec =
     tie.close
     (tie.spec
-    (λ c. c.match.keys1)
-    (λ c. c.match.keys2)
-    (λ c. c.match.keys3)
-    (λ c. sym (ap refusal_second c.before.self.given.1))
-    (λ c. sym (ap refusal_second c.before.self2.given.1))
-    (λ c. sym (ap refusal_second c.before.self3.given.1))
-    (λ c. none c.before.args.self c.match.keys4))
+    (λ c. c.in-NoRows.keys1)
+    (λ c. c.in-NoRoom.keys2)
+    (λ c. c.in-BadLine.keys3)
+    (λ c. sym (ap refusal_second c.before.self-1.given.1))
+    (λ c. sym (ap refusal_second c.before.self-in-NoRoom-1.given.1))
+    (λ c. sym (ap refusal_second c.before.self-in-BadLine-1.given.1))
+    (λ c. none c.before.args.self c.in_default.keys4))

@@ -7,20 +7,20 @@ use Rattle.layout.proofs.Unknown.{section_type-unknown}
 use Rattle.layout.proofs.section_type.SourceInfoSectionType.from_u16.Statement.{statement}
 use Rattle.layout.proofs.section_type.SourceInfoSectionType.from_u16.Tie as tie
 
-returns : tie.Need-returns
+returns : tie.Need-returns-in-0
 returns c = search rules
 
-returns-2 : tie.Need-returns-2
+returns-2 : tie.Need-returns-in-1
 returns-2 c = search rules
 
-returns-3 : tie.Need-returns-3
+returns-3 : tie.Need-returns-in-2
 returns-3 c = search rules
 
-returns-4 : tie.Need-returns-4
+returns-4 : tie.Need-returns-in_default
 returns-4 c =
     sym
     (section_type-unknown c.before.args.value
-    (omega (arith, c.match.rest.0.0.1, c.match.rest.0.1, c.match.rest.1)))
+    (omega (arith, c.in_default.in_default-own.rest.0.0.1, c.in_default.in_default-own.rest.0.1, c.in_default.in_default-own.rest.1)))
 
-pub from-u16-spec : {M : Type 1} → statement M
-from-u16-spec = tie.close (tie.spec returns returns-2 returns-3 returns-4)
+pub from_u16_spec : {M : Type 1} → statement M
+from_u16_spec = tie.close (tie.spec returns returns-2 returns-3 returns-4)

@@ -6,22 +6,23 @@ use Rattle.sizes.proofs.Capped.{opened-capped, added-capped}
 use Rattle.sizes.proofs.sizes.Sizes.advance.Statement.{statement}
 use Rattle.sizes.proofs.sizes.Sizes.advance.Tie as tie
 
-returns : tie.Need-returns
+returns : tie.Need-returns-then-begins_section
 unfolding advance
 returns c =
     let a = c.before.before.before.before.args in
-    rw (← c.before.before.begins-section.ensures, c.before.if1.true) (cc (opened-capped a.tag a.first))
+    rw (← c.before.before.begins_section.ensures, c.before.if-begins_section.true) (cc (opened-capped a.tag a.first))
 
-returns-2 : tie.Need-returns-2
+returns-2 : tie.Need-returns
 unfolding advance
 returns-2 c =
     let a = c.before.before.before.before.before.args in
-    rw (← c.before.before.before.begins-section.ensures, c.before.before.if1.false) (cc (added-capped a.tag a.self.current a.first a.second))
+    rw (← c.before.before.before.begins_section.ensures, c.before.before.if-begins_section.false) (cc (added-capped a.tag a.self.current a.first a.second))
 
-pub advance-spec : {M : Type 1} → statement M
-advance-spec =
+pub advance_spec : {M : Type 1} → statement M
+advance_spec =
     tie.close
     (tie.spec
+
     (λ c κs. search rules)
     (λ c κs. search rules)
     (λ c κs. search rules)

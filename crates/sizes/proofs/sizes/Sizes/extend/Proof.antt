@@ -24,18 +24,19 @@ added-bound Name a b = omega (arith, aligned-by-arithmetic (16 + wire_size a))
 added-bound Pair a b = omega arith
 added-bound None a b = omega arith
 
-add-cap : tie.Need-overflow-add-cap
+add-cap : tie.Need-overflow_add-self
 add-cap c =
     let a = c.before.before.args in
-    omega (arith, c.added-size.ensures, added-bound a.tag a.first a.second)
+    omega (arith, c.added_size.ensures, added-bound a.tag a.first a.second)
 
 returns : tie.Need-returns
 returns c = cc
 
-pub extend-spec : {M : Type 1} → statement M
-extend-spec =
+pub extend_spec : {M : Type 1} → statement M
+extend_spec =
     tie.close
     (tie.spec
+
     (λ c. search rules)
     (λ c κs. search rules)
     add-cap

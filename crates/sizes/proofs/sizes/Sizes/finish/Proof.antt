@@ -15,20 +15,20 @@ use Rattle.sizes.specs.declared.sizes.Sizes.{Sizes}
 use Rattle.sizes.proofs.sizes.Sizes.finish.Statement.{statement}
 use Rattle.sizes.proofs.sizes.Sizes.finish.Tie as tie
 
-add-size : tie.Need-overflow-add-size
+add-size : tie.Need-overflow_add-size
 add-size c = omega (arith, c.align.ensures, aligned-by-arithmetic c.before.before.before.args.self.current)
 
-returns : tie.Need-returns
+returns : tie.Need-returns-then-self-gt-COUNT_LIMIT
 unfolding finish check
-returns c = simp (lt-leb _ _ c.if1.true)
+returns c = simp (lt-leb _ _ c.if-self-gt-COUNT_LIMIT.true)
 
-returns-2 : tie.Need-returns-2
+returns-2 : tie.Need-returns-then-self
 unfolding finish check
-returns-2 c = simp (le-leb _ _ c.before.if1.false, c.if2.true)
+returns-2 c = simp (le-leb _ _ c.before.if-self-gt-COUNT_LIMIT.false, c.if-self.true)
 
-returns-3 : tie.Need-returns-3
+returns-3 : tie.Need-returns-then-size-gt-PAYLOAD_LIMIT
 unfolding finish check
-returns-3 c = simp (le-leb _ _ c.before.before.if1.false, c.before.if2.false, ← c.before.before.before.before.align.ensures, lt-leb _ _ c.if3.true)
+returns-3 c = simp (le-leb _ _ c.before.before.if-self-gt-COUNT_LIMIT.false, c.before.if-self.false, ← c.before.before.before.before.align.ensures, lt-leb _ _ c.if-size-gt-PAYLOAD_LIMIT.true)
 
 -- a size within the limits
 within :
@@ -41,15 +41,16 @@ within :
 unfolding finish check
 within m padded e few narrow small = rw (← e, le-leb m.sections count_limit few, narrow, le-leb (m.complete + padded) limit small)
 
-returns-4 : tie.Need-returns-4
+returns-4 : tie.Need-returns
 returns-4 c =
     let a = c.before.before.before.before in
-    ap measured (within a.before.before.before.args.self a.align.result a.align.ensures c.before.before.if1.false c.before.if2.false c.if3.false)
+    ap measured (within a.before.before.before.args.self a.align.result a.align.ensures c.before.before.if-self-gt-COUNT_LIMIT.false c.before.if-self.false c.if-size-gt-PAYLOAD_LIMIT.false)
 
 pub finish_spec : {M : Type 1} → statement M
 finish_spec =
     tie.close
     (tie.spec
+
     (λ c. search rules)
     (λ c. search rules)
     (λ c κs. search rules)

@@ -9,19 +9,20 @@ use Rattle.table.specs.Rows.{store_row}
 use Rattle.table.proofs.row.Row.store.Statement.{statement}
 use Rattle.table.proofs.row.Row.store.Tie as tie
 
-returns : tie.Need-returns
+returns : tie.Need-returns-then-index-table
 unfolding store_row
-returns c = simp (lt-ltb _ _ c.if1.true, towards_suc)
+returns c = simp (lt-ltb _ _ c.if-index-table.true, towards_suc)
 
-returns-2 : tie.Need-returns-2
+returns-2 : tie.Need-returns-else-index-table
 unfolding store_row
-returns-2 c = simp (le-ltb _ _ c.if1.false)
+returns-2 c = simp (le-ltb _ _ c.if-index-table.false)
 
 -- Before the two: no product or sum wraps, each index is within the table, and the table keeps its length.
 pub store_spec : {M : Type 1} → statement M
 store_spec =
     tie.close
     (tie.spec
+
     (λ c. search rules)
     (λ c. search rules)
     (λ c. search rules)
