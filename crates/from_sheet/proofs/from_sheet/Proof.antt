@@ -18,8 +18,8 @@ use Rattle.from_sheet.proofs.from_sheet.Tie as tie
 -- the payload that was measured
 measured : (n : tie.In-Bytes-2) → (
     let a = n.before.before.before.before.before.args in
-    (p : List ℕ) × (from_sheet a.sheet.now ≡ good p) × (length p ≡ n.size-1.given.0.0))
-measured n = sized-bytes _ _ (sym n.before.before.measure.ensures ∙ n.size-1.given.1)
+    (p : List ℕ) × (from_sheet a.sheet.now ≡ good p) × (length p ≡ n.in-Bytes.size))
+measured n = sized-bytes _ _ (sym n.before.before.measure.ensures ∙ n.in-Bytes.is)
 
 measure-requires : tie.Need-measure-requires
 measure-requires c κs = search rules
@@ -54,7 +54,7 @@ unfolding from_sheet_answer from_sheet_output
 returns-2 c =
     let m = c.before.before.before in
     let a = m.before.before.before.args in
-    let told = refused _ a.output.now (sized-refused _ _ (sym m.measure.ensures ∙ c.before.refusal-1.given.1)) in
+    let told = refused _ a.output.now (sized-refused _ _ (sym m.measure.ensures ∙ c.before.in-Refused.is)) in
     (sym told.0, sym told.1)
 
 same_length : tie.Need-shape_of-output

@@ -93,8 +93,8 @@ returns-2 c =
     let i = e.before.before in
     let s = i.before.before.before.args.sheet.now in
     let (n, number, same) = i.loop-at.invariant in
-    let q = c.before.refusal-1.given.0.0 in
-    let fault = refused s n i.loop-at.sizes i.loop-at.at e.line_end-end.result e.line_end-end.ensures (omega arith) q (told-refused _ q (sym (line-told r) ∙ c.before.refusal-1.given.1)) in
+    let q = c.before.in-Refused.refusal in
+    let fault = refused s n i.loop-at.sizes i.loop-at.at e.line_end-end.result e.line_end-end.ensures (omega arith) q (told-refused _ q (sym (line-told r) ∙ c.before.in-Refused.is)) in
     sym (ap measured fault) ∙ ap measured same ∙ sheet-measured s
 
 enum-known-line : tie.Need-enum_known-line invariant-loop decreases-loop
@@ -119,8 +119,8 @@ loop-again c =
     let i = e.before.before in
     let s = i.before.before.before.args.sheet.now in
     let (n, number, same) = i.loop-at.invariant in
-    let l = c.before.before.before.line-1.given.0.0 in
-    let (rec, good, is) = told_line _ l (sym (line-told r) ∙ c.before.before.before.line-1.given.1) in
+    let l = c.before.before.before.in-Line.line in
+    let (rec, good, is) = told_line _ l (sym (line-told r) ∙ c.before.before.before.in-Line.is) in
     let step = read s n i.loop-at.sizes i.loop-at.at e.line_end-end.result e.line_end-end.ensures (omega arith) rec good in
     let sizes : c.before.advance-sizes.result ≡ counted i.loop-at.sizes rec = c.before.advance-sizes.ensures ∙ ap (λ (k : LineSizes). advance i.loop-at.sizes k.tag k.first k.second) is in
     (n + 1, omega (arith, c.next_number-number.ensures, number), rw sizes (sym step ∙ same))

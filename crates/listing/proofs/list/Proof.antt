@@ -20,7 +20,7 @@ whole c =
     let parsed = c.before.before in
     let p = parsed.before.before.before.args.payload.now in (
       λ k. omega (arith, parsed.before.before.shared_slice_known-1.given k),
-      ap is_good (rows-counted (parse p) _ (sym parsed.parse_srci.ensures ∙ c.enum_told-1.given.1)).1,
+      ap is_good (rows-counted (parse p) _ (sym parsed.parse_srci.ensures ∙ c.in-Rows.is)).1,
     )
 
 parse-srci-requires : tie.Need-parse_srci-requires
@@ -63,7 +63,7 @@ unfolding list_answer list_output
 returns-2 c =
     let parsed = c.before.before.before in
     let a = parsed.before.before.before.args in
-    met-refused listing-by-walk a.payload.now a.output.now (rows-refused _ _ (sym parsed.parse_srci.ensures ∙ c.before.refusal-1.given.1))
+    met-refused listing-by-walk a.payload.now a.output.now (rows-refused _ _ (sym parsed.parse_srci.ensures ∙ c.before.in-Refused.is))
 
 same-length-2 : tie.Need-shape_of-output
 same-length-2 c = search rules

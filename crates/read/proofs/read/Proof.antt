@@ -22,8 +22,8 @@ use Rattle.read.specs.Store.{store_rows}
 use Rattle.read.proofs.read.Tie as tie
 
 -- the rows that were counted
-rows : (n : tie.In-Rows-2) → (let p = n.before.before.before.before.before.args.payload.now in (rs : List Row) × (parse p ≡ good rs) × (length rs ≡ n.count-1.given.0.0))
-rows n = rows-counted _ _ (sym n.before.before.parse_srci.ensures ∙ n.count-1.given.1)
+rows : (n : tie.In-Rows-2) → (let p = n.before.before.before.before.before.args.payload.now in (rs : List Row) × (parse p ≡ good rs) × (length rs ≡ n.in-Rows.count))
+rows n = rows-counted _ _ (sym n.before.before.parse_srci.ensures ∙ n.in-Rows.is)
 
 parse-srci-requires : tie.Need-parse_srci-requires
 parse-srci-requires c κs = search rules
@@ -55,7 +55,7 @@ returns-2 : tie.Need-returns-in-Refused
 returns-2 c =
     let s = c.before.before.before in
     let a = s.before.before.before.args in
-    let all = refused a.payload.now a.rows.now (rows-refused _ _ (sym s.parse_srci.ensures ∙ c.before.refusal-1.given.1)) in
+    let all = refused a.payload.now a.rows.now (rows-refused _ _ (sym s.parse_srci.ensures ∙ c.before.in-Refused.is)) in
     (sym all.0, sym all.1)
 
 same_length : tie.Need-shape_of-rows

@@ -29,7 +29,7 @@ whole c =
     let parsed = c.before.before in
     let p = parsed.before.before.before.args.payload.now in (
       λ k. omega (arith, parsed.before.before.shared_slice_known-1.given k),
-      ap is_good (rows-counted (parse p) _ (sym parsed.parse_srci.ensures ∙ c.enum_told-1.given.1)).1,
+      ap is_good (rows-counted (parse p) _ (sym parsed.parse_srci.ensures ∙ c.in-Rows.is)).1,
     )
 
 -- and its sheet is at most three and a half times as long as the limit
@@ -84,7 +84,7 @@ unfolding to_sheet_answer to_sheet_output
 returns-2 c =
     let parsed = c.before.before.before in
     let a = parsed.before.before.before.args in
-    met-refused sheet-by-walk a.payload.now a.output.now (rows-refused _ _ (sym parsed.parse_srci.ensures ∙ c.before.refusal-1.given.1))
+    met-refused sheet-by-walk a.payload.now a.output.now (rows-refused _ _ (sym parsed.parse_srci.ensures ∙ c.before.in-Refused.is))
 
 same-length-2 : tie.Need-shape_of-output
 same-length-2 c = search rules

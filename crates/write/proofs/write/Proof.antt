@@ -20,8 +20,8 @@ use Rattle.write.proofs.write.Tie as tie
 -- the bytes that were measured
 measured : (n : tie.In-Bytes-2) → (
     let a = n.before.before.before.before.before.before.before.args in
-    (q : List ℕ) × (written_table a.payload.now a.edit.now a.rows.now ≡ good q) × (length q ≡ n.size-1.given.0.0))
-measured n = sized-bytes _ _ (sym n.before.before.measure.ensures ∙ n.size-1.given.1)
+    (q : List ℕ) × (written_table a.payload.now a.edit.now a.rows.now ≡ good q) × (length q ≡ n.in-Bytes.size))
+measured n = sized-bytes _ _ (sym n.before.before.measure.ensures ∙ n.in-Bytes.is)
 
 -- they are the rows', written
 written-rows : (payload edit table q : List ℕ) → written_table payload edit table ≡ good q → written payload edit (rows_of table) ≡ good q
@@ -61,7 +61,7 @@ unfolding write_answer write_output
 returns-2 c =
     let m = c.before.before.before in
     let a = m.before.before.before.before.before.args in
-    let told = refused _ a.output.now (sized-refused _ _ (sym m.measure.ensures ∙ c.before.refusal-1.given.1)) in
+    let told = refused _ a.output.now (sized-refused _ _ (sym m.measure.ensures ∙ c.before.in-Refused.is)) in
     (sym told.0, sym told.1)
 
 same_length : tie.Need-shape_of-output

@@ -37,19 +37,19 @@ enum-told-4 c = search rules
 
 returns : tie.Need-returns-in-SourceContents
 unfolding public_line
-returns c = rw c.before.enum_told-1.given.1 (ap (λ (l : List ℕ). l ∷ []) c.summarize_contents.ensures)
+returns c = rw c.before.in-SourceContents.is (ap (λ (l : List ℕ). l ∷ []) c.summarize_contents.ensures)
 
 returns-2 : tie.Need-returns-in-SourceNames
 unfolding public_line
-returns-2 c = rw (c.before.enum_told-in-SourceNames-1.given.1, c.read_u32.ensures)
+returns-2 c = rw (c.before.in-SourceNames.is, c.read_u32.ensures)
 
 returns-3 : tie.Need-returns-in-Arguments
 unfolding public_line
-returns-3 c = rw (c.before.enum_told-in-Arguments-1.given.1, c.read_u32-in-Arguments.ensures)
+returns-3 c = rw (c.before.in-Arguments.is, c.read_u32-in-Arguments.ensures)
 
 returns-4 : tie.Need-returns-in-Unknown
 unfolding public_line
-returns-4 c = rw c.enum_told-in-Unknown-1.given.1
+returns-4 c = rw c.in-Unknown.is
 
 pub summarize_spec : {M : Type 1} → statement M
 summarize_spec =

@@ -29,13 +29,13 @@ returns c =
     let w = c.before.before in
     let s = w.before.before.before in
     let told = s.before.before in
-    rw (← told.summarize.ensures, s.summary-1.given.1, append-nil) w.write_line.ensures
+    rw (← told.summarize.ensures, s.in-Known.is, append-nil) w.write_line.ensures
 
 returns-2 : tie.Need-returns-in-Unknown
 unfolding lines
 returns-2 c =
     let told = c.before.before in
-    rw (← told.summarize.ensures, c.enum_told-1.given.1) (omega arith, (omega arith, refl))
+    rw (← told.summarize.ensures, c.in-Unknown.is) (omega arith, (omega arith, refl))
 
 pub write_shown_spec : {M : Type 1} → statement M
 write_shown_spec =

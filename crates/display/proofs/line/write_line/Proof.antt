@@ -49,32 +49,32 @@ same_length c = search rules
 -- what is stored for each kind, and that it is the line
 plain : (c : tie.After-write_records) →
     (let a = c.before.before.before.before.before.before.before.before.args in
-    Stored a.at a.output.now c.write_records.result c.write_records.new.0 (records_line a.place (ascii "] SourceContents: ") c.before.before.before.before.before.summary-1.given.0.0 (ascii " uncompressed file(s)\n")))
+    Stored a.at a.output.now c.write_records.result c.write_records.new.0 (records_line a.place (ascii "] SourceContents: ") c.before.before.before.before.before.in-Uncompressed.count (ascii " uncompressed file(s)\n")))
 unfolding ascii
 plain c = let e = c.write_records.ensures in (e.0, (omega arith, e.1.1))
 
 packed : (c : tie.After-write_records-next) →
     (let a = c.before.before.before.before.before.before.before.before.args in
-    Stored a.at a.output.now c.write_records-next.result c.write_records-next.new.0 (records_line a.place (ascii "] SourceContents: ") c.before.before.before.before.before.summary-in-Zlib-1.given.0.0 (ascii " zlib file(s), ")))
+    Stored a.at a.output.now c.write_records-next.result c.write_records-next.new.0 (records_line a.place (ascii "] SourceContents: ") c.before.before.before.before.before.in-Zlib.count (ascii " zlib file(s), ")))
 unfolding ascii
 packed c = let e = c.write_records-next.ensures in (e.0, (omega arith, e.1.1))
 
 bytes : (c : tie.After-write_number) →
     (let r = c.before.before.before.before.before in
-    let n = r.before.before.before.before.before.summary-in-Zlib-1.given.0.1.0 in
+    let n = r.before.before.before.before.before.in-Zlib.bytes in
     Stored r.write_records-next.result r.write_records-next.new.0 c.write_number.result c.write_number.new.0 (decimal n ++ ascii " bytes\n"))
 unfolding ascii
 bytes c = let e = c.write_number.ensures in (e.0, (omega arith, e.1.1))
 
 names : (c : tie.After-write_records-in-SourceNames) →
     (let a = c.before.before.before.before.before.before.before.before.args in
-    Stored a.at a.output.now c.write_records-in-SourceNames.result c.write_records-in-SourceNames.new.0 (records_line a.place (ascii "] SourceNames: ") c.before.before.before.before.before.summary-in-SourceNames-1.given.0.0 (ascii " file(s)\n")))
+    Stored a.at a.output.now c.write_records-in-SourceNames.result c.write_records-in-SourceNames.new.0 (records_line a.place (ascii "] SourceNames: ") c.before.before.before.before.before.in-SourceNames.count (ascii " file(s)\n")))
 unfolding ascii
 names c = let e = c.write_records-in-SourceNames.ensures in (e.0, (omega arith, e.1.1))
 
 arguments : (c : tie.After-write_records-in-Arguments) →
     (let a = c.before.before.before.before.before.before.before.before.args in
-    Stored a.at a.output.now c.write_records-in-Arguments.result c.write_records-in-Arguments.new.0 (records_line a.place (ascii "] Arguments: ") c.before.before.before.before.before.summary-in-Arguments-1.given.0.0 (ascii " pair(s)\n")))
+    Stored a.at a.output.now c.write_records-in-Arguments.result c.write_records-in-Arguments.new.0 (records_line a.place (ascii "] Arguments: ") c.before.before.before.before.before.in-Arguments.count (ascii " pair(s)\n")))
 unfolding ascii
 arguments c = let e = c.write_records-in-Arguments.ensures in (e.0, (omega arith, e.1.1))
 
@@ -83,7 +83,7 @@ returns c =
     let r = c.before.before in
     let t = r.before.before.before.before.before in
     let a = t.before.before.before.args in
-    rw (t.summary-1.given.1, ← plain-line a.place t.summary-1.given.0.0) (plain r)
+    rw (t.in-Uncompressed.is, ← plain-line a.place t.in-Uncompressed.count) (plain r)
 
 same-length-2 : tie.Need-shape_of-output-in-Zlib
 same-length-2 c = search rules
@@ -94,11 +94,11 @@ returns-2 c =
     let r = n.before.before.before.before.before in
     let t = r.before.before.before.before.before in
     let a = t.before.before.before.args in
-    let count = t.summary-in-Zlib-1.given.0.0 in
-    let size = t.summary-in-Zlib-1.given.0.1.0 in
+    let count = t.in-Zlib.count in
+    let size = t.in-Zlib.bytes in
     let records = records_line a.place (ascii "] SourceContents: ") count (ascii " zlib file(s), ") in
     let both = stored-both records (decimal size ++ ascii " bytes\n") a.at r.write_records-next.result n.write_number.result a.output.now r.write_records-next.new.0 (packed r) (bytes n) (omega (arith, r.write_records-next.ensures.1.0, n.write_number.ensures.1.0)) in
-    rw (t.summary-in-Zlib-1.given.1, ← packed-line a.place count size) both
+    rw (t.in-Zlib.is, ← packed-line a.place count size) both
 
 same-length-3 : tie.Need-shape_of-output-in-SourceNames
 same-length-3 c = search rules
@@ -108,7 +108,7 @@ returns-3 c =
     let r = c.before.before in
     let t = r.before.before.before.before.before in
     let a = t.before.before.before.args in
-    rw (t.summary-in-SourceNames-1.given.1, ← names-line a.place t.summary-in-SourceNames-1.given.0.0) (names r)
+    rw (t.in-SourceNames.is, ← names-line a.place t.in-SourceNames.count) (names r)
 
 same-length-4 : tie.Need-shape_of-output-in-Arguments
 same-length-4 c = search rules
@@ -118,7 +118,7 @@ returns-4 c =
     let r = c.before.before in
     let t = r.before.before.before.before.before in
     let a = t.before.before.before.args in
-    rw (t.summary-in-Arguments-1.given.1, ← arguments-line a.place t.summary-in-Arguments-1.given.0.0) (arguments r)
+    rw (t.in-Arguments.is, ← arguments-line a.place t.in-Arguments.count) (arguments r)
 
 same-length-5 : tie.Need-shape_of-output-in-Unknown
 same-length-5 c = search rules
@@ -126,7 +126,7 @@ same-length-5 c = search rules
 returns-5 : tie.Need-returns-in-Unknown
 returns-5 c =
     let u = c.before.before in
-    rw u.before.before.before.summary-in-Unknown-1.given.1 u.write_unknown.ensures
+    rw u.before.before.before.in-Unknown.is u.write_unknown.ensures
 
 pub write_line_spec : {M : Type 1} → statement M
 write_line_spec =

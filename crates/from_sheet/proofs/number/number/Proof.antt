@@ -24,14 +24,14 @@ enum_told c = search rules
 returns : tie.Need-returns-in-Number
 returns c =
     let read = c.before.before.before in
-    let is = (number_is _ _ (sym read.read_number.ensures ∙ c.before.n-1.given.1)).1 in
+    let is = (number_is _ _ (sym read.read_number.ensures ∙ c.before.in-Number.is)).1 in
     sym is ∙ ap number_of read.before.field.ensures
 
 returns-2 : tie.Need-returns-in-Malformed
 returns-2 c =
     let read = c.before.before in
     let field = read.before in
-    let not = number-not _ (sym read.read_number.ensures ∙ c.enum_told-1.given.1) in
+    let not = number-not _ (sym read.read_number.ensures ∙ c.in-Malformed.is) in
     let is = ap is_number field.field.ensures ∙ field.before.before.requires in
     let z : ◌≡◌ {A = ℕ} 0 1 = cc (not, is) in
     absurd (omega arith)

@@ -42,7 +42,7 @@ content-is :
 content-is c =
     let told = c.before.before in
     let a = told.before.before.before.before.args in
-    content-bytes a.tag (fields_of a.line.now) told.enum_told-1.given.1 ∙ ap (λ (f : List ℕ). content_entry (unescape f)) (sym c.field.ensures)
+    content-bytes a.tag (fields_of a.line.now) told.in-Content.is ∙ ap (λ (f : List ℕ). content_entry (unescape f)) (sym c.field.ensures)
 
 name-is :
     (c : tie.After-number) →
@@ -51,7 +51,7 @@ name-is :
 name-is c =
     let told = c.before.before.before in
     let a = told.before.before.before.before.args in
-    name-bytes a.tag (fields_of a.line.now) told.enum_told-in-Name-1.given.1 ∙
+    name-bytes a.tag (fields_of a.line.now) told.in-Name.is ∙
     ap₂ (λ (f : List ℕ) (n : ℕ). name_entry (name (unescape f) n)) (sym c.before.field-in-Name.ensures) (sym c.number.ensures)
 
 pair_is :
@@ -61,7 +61,7 @@ pair_is :
 pair_is c =
     let told = c.before.before.before in
     let a = told.before.before.before.before.args in
-    pair-bytes a.tag (fields_of a.line.now) told.enum_told-in-Pair-1.given.1 ∙
+    pair-bytes a.tag (fields_of a.line.now) told.in-Pair.is ∙
     ap₂ (λ (f g : List ℕ). pair_entry (pair (unescape f) (unescape g))) (sym c.before.field-in-Pair.ensures) (sym c.field-in-Pair-2.ensures)
 
 enum_told : tie.Need-enum_told-1
@@ -87,7 +87,7 @@ number-requires c κs =
     let told = c.before.before in
     let start = told.before.before.before.before in
     let fs = fields_of start.args.line.now in
-    number-made tag.Name fs (ap (λ (t : Tag). is_made t fs) (sym told.enum_told-in-Name-1.given.1) ∙ start.requires.0) 0 (omega arith)
+    number-made tag.Name fs (ap (λ (t : Tag). is_made t fs) (sym told.in-Name.is) ∙ start.requires.0) 0 (omega arith)
 
 store-name-requires : tie.Need-store_name-requires
 store-name-requires c κs =
@@ -148,27 +148,27 @@ returns-3 c = let w = c.before.before in rw (pair_is w.before) w.store_pair.ensu
 
 returns-4 : tie.Need-returns-in-PlainContents
 unfolding entry_bytes
-returns-4 c = rw c.enum_told-in-PlainContents-1.given.1 (omega arith, refl)
+returns-4 c = rw c.in-PlainContents.is (omega arith, refl)
 
 returns-5 : tie.Need-returns-in-PackedContents
 unfolding entry_bytes
-returns-5 c = rw c.enum_told-in-PackedContents-1.given.1 (omega arith, refl)
+returns-5 c = rw c.in-PackedContents.is (omega arith, refl)
 
 returns-6 : tie.Need-returns-in-Names
 unfolding entry_bytes
-returns-6 c = rw c.enum_told-in-Names-1.given.1 (omega arith, refl)
+returns-6 c = rw c.in-Names.is (omega arith, refl)
 
 returns-7 : tie.Need-returns-in-Arguments
 unfolding entry_bytes
-returns-7 c = rw c.enum_told-in-Arguments-1.given.1 (omega arith, refl)
+returns-7 c = rw c.in-Arguments.is (omega arith, refl)
 
 returns-8 : tie.Need-returns-in-Unknown
 unfolding entry_bytes
-returns-8 c = rw c.enum_told-in-Unknown-1.given.1 (omega arith, refl)
+returns-8 c = rw c.in-Unknown.is (omega arith, refl)
 
 returns-9 : tie.Need-returns-in-None
 unfolding entry_bytes
-returns-9 c = rw c.enum_told-in-None-1.given.1 (omega arith, refl)
+returns-9 c = rw c.in-None.is (omega arith, refl)
 
 pub store_entry_spec : {M : Type 1} → statement M
 store_entry_spec =

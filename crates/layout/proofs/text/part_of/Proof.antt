@@ -14,8 +14,8 @@ slice-aggregate-result c = search rules
 
 returns : tie.Need-returns-then-bytes-start
 returns c =
-    let a = c.before.before.args in
-    sym (ap (take a.count) (drop_of_length-le a.bytes.now c.before.if-bytes-start.true) ∙ take-nil a.count)
+    let a = c.before.args in
+    sym (ap (take a.count) (drop_of_length-le a.bytes.now c.if-bytes-start.true) ∙ take-nil a.count)
 
 sub-if2 : tie.Need-overflow_sub-bytes
 sub-if2 c = search rules

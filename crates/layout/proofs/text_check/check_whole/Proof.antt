@@ -35,13 +35,13 @@ find-nul-requires : tie.Need-find_nul-requires
 find-nul-requires c κs = search rules
 
 returns-2 : tie.Need-returns-in-IllFormed
-returns-2 c = sym (ap verdict (whole-not-utf8 _ (not-well-formed _ _ (sym c.before.before.validate.ensures ∙ c.enum_told-1.given.1))))
+returns-2 c = sym (ap verdict (whole-not-utf8 _ (not-well-formed _ _ (sym c.before.validate.ensures ∙ c.in-IllFormed.is))))
 
 abbrev whole : tie.After-find_nul → List ℕ
-whole c = c.before.before.before.before.before.before.args.text.now
+whole c = c.before.before.before.before.before.args.text.now
 
 well : (c : tie.After-find_nul) → well_formed (whole c) ≡ true
-well c = well-formed _ (sym c.before.before.before.validate.ensures ∙ c.before.enum_told-in-WellFormed-1.given.1)
+well c = well-formed _ (sym c.before.before.validate.ensures ∙ c.before.in-WellFormed.is)
 
 returns-3 : tie.Need-returns-then-find_nul-text
 returns-3 c = sym (ap verdict (whole-passed _ (well c.before) (omega arith)))

@@ -40,12 +40,12 @@ loop-again c =
           (λ k h e.
           ⊎_elim
           (λ w. absurd (not-both _ w.plain-is e))
-          (λ w. ⊎_elim (λ v. absurd (not-both _ v.plain-is (sym w.1 ∙ e))) (λ v. i.invariant.1 k h (sym v.plain-is ∙ sym w.1 ∙ e)) c.before.if-byte-eq0.branch-raw)
+          (λ w. ⊎_elim (λ v. absurd (not-both _ v.plain-is (sym w.plain-is ∙ e))) (λ v. i.invariant.1 k h (sym v.plain-is ∙ sym w.plain-is ∙ e)) c.before.if-byte-eq0.branch-raw)
           c.if-byte-ge128.branch-raw)
           (λ e.
           ⊎_elim
-          (λ w. absurd (not-both _ w.1 e))
-          (λ w. ⊎_elim (λ v. absurd (not-both _ v.1 (sym w.1 ∙ e))) (λ v. (omega arith, omega arith)) c.before.if-byte-eq0.branch-raw)
+          (λ w. absurd (not-both _ w.plain-is e))
+          (λ w. ⊎_elim (λ v. absurd (not-both _ v.plain-is (sym w.plain-is ∙ e))) (λ v. (omega arith, omega arith)) c.before.if-byte-eq0.branch-raw)
           c.if-byte-ge128.branch-raw),
     )
 

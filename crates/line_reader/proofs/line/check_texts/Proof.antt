@@ -19,52 +19,52 @@ of_field e is = e ∙ ap (λ (t : List ℕ). verdict (check_whole t)) is
 
 returns : tie.Need-returns-in-Content
 unfolding text_fields check_all
-returns c = rw c.before.before.enum_told-1.given.1 (of_field c.check_whole.ensures c.before.field_by.ensures ∙ last-text _)
+returns c = rw c.before.before.in-Content.is (of_field c.check_whole.ensures c.before.field_by.ensures ∙ last-text _)
 
 returns-2 : tie.Need-returns-in-Name
 unfolding text_fields check_all
-returns-2 c = rw c.before.before.enum_told-in-Name-1.given.1 (of_field c.check_whole-in-Name.ensures c.before.field_by-in-Name.ensures ∙ last-text _)
+returns-2 c = rw c.before.before.in-Name.is (of_field c.check_whole-in-Name.ensures c.before.field_by-in-Name.ensures ∙ last-text _)
 
 returns-3 : tie.Need-returns-in-Refused
 unfolding text_fields check_all
 returns-3 c =
     let first = c.before.before.before in
     let told = of_field first.check_whole-in-Pair.ensures first.before.field_by-in-Pair.ensures in
-    rw first.before.before.enum_told-in-Pair-1.given.1 (sym (ap verdict (after-fault _ _ (not-passed _ _ (sym told ∙ c.before.refusal-1.given.1)))))
+    rw first.before.before.in-Pair.is (sym (ap verdict (after-fault _ _ (not-passed _ _ (sym told ∙ c.before.in-Refused.is)))))
 
 returns-4 : tie.Need-returns-in-Passed
 unfolding text_fields check_all
 returns-4 c =
     let first = c.before.before.before.before in
     let told = of_field first.check_whole-in-Pair.ensures first.before.field_by-in-Pair.ensures in
-    rw first.before.before.enum_told-in-Pair-1.given.1
+    rw first.before.before.in-Pair.is
     (of_field c.check_whole-in-Passed.ensures c.before.field_by-in-Passed.ensures ∙
     last-text _ ∙
-    sym (ap verdict (after-good _ _ (passed _ (sym told ∙ c.before.before.enum_told-in-Passed-1.given.1)))))
+    sym (ap verdict (after-good _ _ (passed _ (sym told ∙ c.before.before.in-Passed.is)))))
 
 returns-5 : tie.Need-returns-in-PlainContents
 unfolding text_fields check_all
-returns-5 c = rw c.enum_told-in-PlainContents-1.given.1
+returns-5 c = rw c.in-PlainContents.is
 
 returns-6 : tie.Need-returns-in-PackedContents
 unfolding text_fields check_all
-returns-6 c = rw c.enum_told-in-PackedContents-1.given.1
+returns-6 c = rw c.in-PackedContents.is
 
 returns-7 : tie.Need-returns-in-Names
 unfolding text_fields check_all
-returns-7 c = rw c.enum_told-in-Names-1.given.1
+returns-7 c = rw c.in-Names.is
 
 returns-8 : tie.Need-returns-in-Arguments
 unfolding text_fields check_all
-returns-8 c = rw c.enum_told-in-Arguments-1.given.1
+returns-8 c = rw c.in-Arguments.is
 
 returns-9 : tie.Need-returns-in-Unknown
 unfolding text_fields check_all
-returns-9 c = rw c.enum_told-in-Unknown-1.given.1
+returns-9 c = rw c.in-Unknown.is
 
 returns-10 : tie.Need-returns-in-None
 unfolding text_fields check_all
-returns-10 c = rw c.enum_told-in-None-1.given.1
+returns-10 c = rw c.in-None.is
 
 pub check_texts_spec : {M : Type 1} → statement M
 check_texts_spec =

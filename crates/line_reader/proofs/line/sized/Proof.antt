@@ -8,13 +8,13 @@ returns : tie.Need-returns-then-not-good
 returns c = rw (c.if-not-good.true)
 
 returns-2 : tie.Need-returns-in_default
-returns-2 c = rw (c.before.before.if-not-good.false, c.enum_told-1.given.1)
+returns-2 c = rw (c.before.before.if-not-good.false, c.in_default.is)
 
 returns-3 : tie.Need-returns-in_default-second
-returns-3 c = rw (c.before.before.before.before.before.if-not-good.false, c.before.before.before.first-1.given.1, c.enum_told-in_default-second-1.given.1)
+returns-3 c = rw (c.before.before.before.before.before.if-not-good.false, c.before.before.before.in-Size.is, c.in_default-second.is)
 
 returns-4 : tie.Need-returns
-returns-4 c = rw (c.before.before.before.before.before.before.if-not-good.false, c.before.before.before.before.first-1.given.1, c.before.second-1.given.1)
+returns-4 c = rw (c.before.before.before.before.before.before.if-not-good.false, c.before.before.before.before.in-Size.is, c.before.in-Size-second.is)
 
 pub sized_spec : {M : Type 1} → statement M
 sized_spec =

@@ -26,8 +26,8 @@ enum-known-name c = search rules
 name-found :
     (c : tie.In-Text-2) →
     (let a = c.before.before.before.before.args in
-    pair_text a.payload.now a.at a.end ≡ good c.name-1.given.0.0.0)
-name-found c = text-found _ _ (sym c.before.before.check_pair_text.ensures ∙ c.name-1.given.1)
+    pair_text a.payload.now a.at a.end ≡ good c.in-Text.name.0)
+name-found c = text-found _ _ (sym c.before.before.check_pair_text.ensures ∙ c.in-Text.is)
 
 wire-size-requires : tie.Need-wire_size-requires
 wire-size-requires c κs = search rules
@@ -45,7 +45,7 @@ value_there :
     (c : tie.After-check_pair_text-in-Text) →
     (let n = c.before.before.before.before in
     let a = n.before.before.before.before.args in
-    c.check_pair_text-in-Text.result ≡ maybe_text (pair_text a.payload.now (a.at + wire_size n.name-1.given.0.0.0) a.end))
+    c.check_pair_text-in-Text.result ≡ maybe_text (pair_text a.payload.now (a.at + wire_size n.in-Text.name.0) a.end))
 value_there c =
     let a = c.before.before.before.before.before.before.before.before.args in
     c.check_pair_text-in-Text.ensures ∙
@@ -65,19 +65,19 @@ add-t15 c = search rules
 
 returns : tie.Need-returns-in-Refused
 returns c =
-    let refused = text-refused _ _ (sym c.before.before.before.check_pair_text.ensures ∙ c.before.refusal-1.given.1) in
+    let refused = text-refused _ _ (sym c.before.before.before.check_pair_text.ensures ∙ c.before.in-Refused.is) in
     sym (ap (place_of after_pair) (pair-no-name _ _ _ refused))
 
 returns-2 : tie.Need-returns-in-Refused-check_pair_text
 returns-2 c =
     let v = c.before.before.before in
-    let refused = text-refused _ _ (sym (value_there v) ∙ c.before.refusal-in-Refused-check_pair_text-2-1.given.1) in
+    let refused = text-refused _ _ (sym (value_there v) ∙ c.before.in-Refused-check_pair_text.is) in
     sym (ap (place_of after_pair) (pair-no-value _ _ _ _ (name-found v.before.before.before.before) refused))
 
 returns-3 : tie.Need-returns-in-Text-check_pair_text
 returns-3 c =
     let v = c.before.before.before.before.before in
-    let found = text-found _ _ (sym (value_there v) ∙ c.before.before.before.value-1.given.1) in
+    let found = text-found _ _ (sym (value_there v) ∙ c.before.before.before.in-Text-check_pair_text.is) in
     ap At (omega (arith, v.before.before.wire_size.ensures, c.before.wire_size-in-Text-check_pair_text.ensures)) ∙
     sym (ap (place_of after_pair) (pair_found _ _ _ _ (name-found v.before.before.before.before) _ found))
 

@@ -48,7 +48,7 @@ turn c =
 
 returns : tie.Need-returns-in-Refused invariant-loop decreases-loop
 returns c =
-    let refused = place-refused after_pair _ _ (sym c.before.before.before.check_pair.ensures ∙ c.before.refusal-1.given.1) in
+    let refused = place-refused after_pair _ _ (sym c.before.before.before.check_pair.ensures ∙ c.before.in-Refused.is) in
     sym (turn c.before.before.before.before ∙ ap (add _) (pairs-refused _ _ _ _ refused))
 
 enum-known-next : tie.Need-enum_known-next invariant-loop decreases-loop
@@ -65,7 +65,7 @@ loop-again c =
     let i = c.before.before.before.before in
     let a = i.before.before.before.args in
     let here = pair a.payload.now i.before.loop-done.at a.end in
-    let found = place_found after_pair here c.before.next-1.given.0.0 (sym c.before.before.before.check_pair.ensures ∙ c.before.next-1.given.1) in (
+    let found = place_found after_pair here c.before.in-At.next (sym c.before.before.before.check_pair.ensures ∙ c.before.in-At.is) in (
       omega (arith, (pair-good _ _ _ found.0 found.1).1, found.2),
       omega arith,
       rw (← found.2) (turn i ∙ pairs-more _ _ _ _ _ found.0 found.1),

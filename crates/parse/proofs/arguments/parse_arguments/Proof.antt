@@ -73,14 +73,14 @@ returns-3 : tie.Need-returns-in-Refused
 unfolding parse_arguments check then
 returns-3 c =
     let f = c.before.before.before in
-    let refused = not-passed (framing f.before.before.before.before.before.before) _ (sym (framed_answer f) ∙ c.before.refusal-1.given.1) in
+    let refused = not-passed (framing f.before.before.before.before.before.before) _ (sym (framed_answer f) ∙ c.before.in-Refused.is) in
     rw (long f.before.before.before.before, no_flag f.before.before, refused)
 
 enum_told : tie.Need-enum_told-1
 enum_told c = search rules
 
 whole : (c : tie.In_default) → framing c.before.before.before.before.before.before.before.before ≡ good tt
-whole c = passed _ (sym (framed_answer c.before.before) ∙ c.enum_told-1.given.1)
+whole c = passed _ (sym (framed_answer c.before.before) ∙ c.in_default.is)
 
 -- the pair bytes lie within the section
 within :
@@ -123,7 +123,7 @@ few : (c : tie.After-check_pairs) (n : ℕ) → c.check_pairs.result ≡ Rows n 
 few c n e = omega (arith, within c.before.before, counted-bound _ _ _ _ n (sym c.check_pairs.ensures ∙ e))
 
 add-t19 : tie.Need-overflow_add-result
-add-t19 c = omega (arith, few c.before.before.before c.before.pairs-1.given.0.0 c.before.pairs-1.given.1)
+add-t19 c = omega (arith, few c.before.before.before c.before.in-Rows.pairs c.before.in-Rows.is)
 
 -- the answer of `check_pairs`, with the section's own row
 answer :
@@ -141,10 +141,10 @@ answer c =
     ∙ ap (add 1) (sym (rw (b.read_u32-bytes.ensures, c.before.read_u32-count.ensures) at c.check_pairs.ensures))
 
 returns-4 : tie.Need-returns-in-Refused-check_pairs
-returns-4 c = sym (answer c.before.before.before ∙ ap (add 1) c.before.refusal-in-Refused-check_pairs-1.given.1)
+returns-4 c = sym (answer c.before.before.before ∙ ap (add 1) c.before.in-Refused-check_pairs.is)
 
 returns-5 : tie.Need-returns-in-Rows
-returns-5 c = sym (answer c.before.before.before ∙ ap (add 1) c.before.pairs-1.given.1)
+returns-5 c = sym (answer c.before.before.before ∙ ap (add 1) c.before.in-Rows.is)
 
 pub parse_arguments_spec : {M : Type 1} → statement M
 parse_arguments_spec =

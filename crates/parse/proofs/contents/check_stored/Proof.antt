@@ -21,7 +21,7 @@ whole e =
     let r = e.before.before.before in
     let a = r.before.before.before.before.args in
     let bytes = r.before.before.before.before.requires.0 in
-    ap (λ (k : SourceCompression). counted (parse_stored k a.payload.now a.at)) r.before.enum_told-in_default-1.given.1
+    ap (λ (k : SourceCompression). counted (parse_stored k a.payload.now a.at)) r.before.in_default.is
     ∙ ap counted (plain-rest a.payload.now a.at (sym r.read_u32.ensures ∙ e.before.before.if-read_u32-bytes.false ∙ bytes))
     ∙ counted-more _ _
     ∙ ap (add 1)
@@ -35,7 +35,7 @@ returns : tie.Need-returns-in-Zlib
 unfolding parse_stored
 returns c =
     let a = c.before.before.before.args in
-    sym (ap (λ (k : SourceCompression). counted (parse_stored k a.payload.now a.at)) c.enum_told-1.given.1)
+    sym (ap (λ (k : SourceCompression). counted (parse_stored k a.payload.now a.at)) c.in-Zlib.is)
 
 enum-told-2 : tie.Need-enum_told-in_default
 enum-told-2 c = search rules
@@ -51,7 +51,7 @@ returns-2 c =
     let a = c.before.before.before.before.before.args in
     let bytes = c.before.before.before.before.before.requires.0 in
     sym
-    (ap (λ (k : SourceCompression). counted (parse_stored k a.payload.now a.at)) c.before.before.enum_told-in_default-1.given.1
+    (ap (λ (k : SourceCompression). counted (parse_stored k a.payload.now a.at)) c.before.before.in_default.is
     ∙ ap counted (plain-unequal a.payload.now a.at (λ e. c.if-read_u32-bytes.true (c.before.read_u32.ensures ∙ e ∙ sym bytes))))
 
 add_start : tie.Need-overflow_add-start
@@ -78,15 +78,15 @@ enum-known-entries c = search rules
 add-t16 : tie.Need-overflow_add-result
 add-t16 c =
     let e = c.before.before.before in
-    let (rs, found, count) = rows-counted _ _ (sym e.check_entries.ensures ∙ c.before.entries-1.given.1) in
+    let (rs, found, count) = rows-counted _ _ (sym e.check_entries.ensures ∙ c.before.in-Rows.is) in
     let pre = e.before.before.before.before.before.before.before.requires in
     omega (arith, entries-bound 12 _ _ content_row_at _ _ rs found, count, pre.1.0, pre.1.1)
 
 returns-3 : tie.Need-returns-in-Refused
-returns-3 c = sym (whole c.before.before.before ∙ ap (add 1) c.before.refusal-1.given.1)
+returns-3 c = sym (whole c.before.before.before ∙ ap (add 1) c.before.in-Refused.is)
 
 returns-4 : tie.Need-returns-in-Rows
-returns-4 c = sym (whole c.before.before.before ∙ ap (add 1) c.before.entries-1.given.1)
+returns-4 c = sym (whole c.before.before.before ∙ ap (add 1) c.before.in-Rows.is)
 
 pub check_stored_spec : {M : Type 1} → statement M
 check_stored_spec =

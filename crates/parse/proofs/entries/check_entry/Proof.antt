@@ -64,7 +64,7 @@ unfolding entry check
 returns-3 c =
     let s = c.before.before.before.before.before.before.before.before.args in
     let size = c.before.before.before.read_u32-size.result in
-    let none : size ≡ 0 = no_text size (omega arith) (sym c.before.before.text_length.ensures ∙ c.enum_told-1.given.1) in
+    let none : size ≡ 0 = no_text size (omega arith) (sym c.before.before.text_length.ensures ∙ c.in_default.is) in
     rw (
       ← c.before.before.before.before.before.read_u32.ensures,
       ← c.before.before.before.read_u32-size.ensures,
@@ -74,8 +74,8 @@ returns-3 c =
     )
 
 -- the size counts the text and its terminator
-counts : (c : tie.In-Text-2) → c.before.before.before.read_u32-size.result ≡ wire_size c.text-1.given.0.0.0
-counts c = wire_size-terminated c.before.before.before.read_u32-size.result _ (sym c.before.before.text_length.ensures ∙ c.text-1.given.1)
+counts : (c : tie.In-Text-2) → c.before.before.before.read_u32-size.result ≡ wire_size c.in-Text.text.0
+counts c = wire_size-terminated c.before.before.before.read_u32-size.result _ (sym c.before.before.text_length.ensures ∙ c.in-Text.is)
 
 -- what is left of the entry's tests once its size has been read
 sized :
@@ -178,7 +178,7 @@ filled c =
     let s = t.before.before.before.before.before.before.before.before.args in
     let size = t.before.before.before.read_u32-size.result in
     let end = s.at + c.before.before.before.before.align4-aligned.result in
-    let zeros : end - (s.at + s.header + wire_size t.text-1.given.0.0.0) ≡ padding (s.header + size) = omega (arith, counts t) in
+    let zeros : end - (s.at + s.header + wire_size t.in-Text.text.0) ≡ padding (s.header + size) = omega (arith, counts t) in
     rw (zeros, ← counts t) at c.terminated_utf8.ensures
 
 enum-told-2 : tie.Need-enum_told-in-Passed
@@ -200,7 +200,7 @@ returns-6 c =
     let back : wire_size (size - 1) ≡ size = omega (arith, counts t) in
     rw (
       bounded c.before.before.before,
-      passed text (sym (filled c.before.before) ∙ c.enum_told-in-Passed-1.given.1),
+      passed text (sym (filled c.before.before) ∙ c.in-Passed.is),
       back,
       ← c.before.before.before.before.before.before.align4-aligned.ensures,
     )
@@ -214,7 +214,7 @@ returns-7 c =
     let text = terminated_text s.payload.now (s.at + s.header) size (padding (s.header + size)) in
     rw (
       bounded c.before.before.before.before,
-      not-passed text _ (sym (filled c.before.before.before) ∙ c.before.refusal-1.given.1),
+      not-passed text _ (sym (filled c.before.before.before) ∙ c.before.in-Refused.is),
     )
 
 pub check_entry_spec : {M : Type 1} → statement M

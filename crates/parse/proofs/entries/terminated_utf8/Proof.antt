@@ -60,7 +60,7 @@ unfolding then
 returns-2 c =
     let s = c.before.before.before.before.before.before.before.before.args in
     let text = check_text s.payload.now s.at s.text.0 in
-    rw (closed c.before.before.before.before, not-passed text _ (sym c.before.before.before.check_text.ensures ∙ c.before.refusal-1.given.1))
+    rw (closed c.before.before.before.before, not-passed text _ (sym c.before.before.before.check_text.ensures ∙ c.before.in-Refused.is))
 
 enum_told : tie.Need-enum_told-1
 enum_told c = search rules
@@ -95,7 +95,7 @@ texted c =
     let text = check_text s.payload.now s.at s.text.0 in
     rw (
       closed c.before.before.before.before.before.before.before,
-      passed text (sym c.before.before.before.before.before.before.check_text.ensures ∙ c.before.before.before.before.enum_told-1.given.1),
+      passed text (sym c.before.before.before.before.before.before.check_text.ensures ∙ c.before.before.before.before.in_default.is),
       ← c.before.before.before.wire_size.ensures,
       ← c.zeros.ensures,
     )

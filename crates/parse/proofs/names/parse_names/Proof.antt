@@ -54,7 +54,7 @@ module _ (s : tie.After-check_framed) where
 whole : (e : tie.After-check_entries) → (let s = e.before.before.before.before in counted (parse_names (payload s) (at s) (size s)) ≡ add 1 e.check_entries.result)
 whole e =
     let s = e.before.before.before.before in
-    ap counted (rest s ∙ after-good _ _ (passed _ (framed_is s ∙ e.before.before.enum_told-1.given.1)))
+    ap counted (rest s ∙ after-good _ _ (passed _ (framed_is s ∙ e.before.before.in_default.is)))
     ∙ counted-more _ _
     ∙ ap (add 1)
     (entries-rows _ _ _ (name_row_at (payload s)) content_row_at _ _
@@ -97,7 +97,7 @@ returns-3 c =
     let s = c.before.before.before in
     sym
     (ap counted
-    (rest s ∙ after-fault _ _ (not-passed _ _ (framed_is s ∙ c.before.refusal-1.given.1))))
+    (rest s ∙ after-fault _ _ (not-passed _ _ (framed_is s ∙ c.before.in-Refused.is))))
 
 enum_told : tie.Need-enum_told-1
 enum_told c = search rules
@@ -120,7 +120,7 @@ add-check-entries c = search rules
 check-entries-requires : tie.Need-check_entries-requires
 check-entries-requires c κs =
     let s = c.before.before.before in
-    (omega arith, omega (arith, fits s c.before.enum_told-1.given.1, s.before.read_u16-bytes.ensures))
+    (omega arith, omega (arith, fits s c.before.in_default.is, s.before.read_u16-bytes.ensures))
 
 enum-known-refusal-2 : tie.Need-enum_known-refusal-in-Refused-check_entries
 enum-known-refusal-2 c = search rules
@@ -132,14 +132,14 @@ add-t19 : tie.Need-overflow_add-result
 add-t19 c =
     let e = c.before.before.before in
     let s = e.before.before.before.before in
-    let (rs, found, count) = rows-counted _ _ (sym e.check_entries.ensures ∙ c.before.entries-1.given.1) in
+    let (rs, found, count) = rows-counted _ _ (sym e.check_entries.ensures ∙ c.before.in-Rows.is) in
     omega (arith, entries-bound 16 _ _ content_row_at _ _ rs found, count, s.before.read_u16-bytes.type-inv)
 
 returns-4 : tie.Need-returns-in-Refused-check_entries
-returns-4 c = sym (whole c.before.before.before ∙ ap (add 1) c.before.refusal-in-Refused-check_entries-1.given.1)
+returns-4 c = sym (whole c.before.before.before ∙ ap (add 1) c.before.in-Refused-check_entries.is)
 
 returns-5 : tie.Need-returns-in-Rows
-returns-5 c = sym (whole c.before.before.before ∙ ap (add 1) c.before.entries-1.given.1)
+returns-5 c = sym (whole c.before.before.before ∙ ap (add 1) c.before.in-Rows.is)
 
 pub parse_names_spec : {M : Type 1} → statement M
 parse_names_spec =

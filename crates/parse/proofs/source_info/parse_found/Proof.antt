@@ -11,16 +11,16 @@ use Rattle.parse.proofs.source_info.parse_found.Statement.{statement}
 use Rattle.parse.proofs.source_info.parse_found.Tie as tie
 
 -- what is asked of what was found, where it is a section
-inside : (c : tie.In-Found) → (let s = c.before.before.before.before in InPayload s.args.payload.now (Found c.before.found-in-Found-1.given.0.0))
+inside : (c : tie.In-Found) → (let s = c.before.before.before.before in InPayload s.args.payload.now (Found c.before.in-Found.section))
 inside c =
     let s = c.before.before.before.before in
-    subst (InPayload s.args.payload.now) c.before.found-in-Found-1.given.1 s.requires.0
+    subst (InPayload s.args.payload.now) c.before.in-Found.is s.requires.0
 
 -- the rows so far are added to the section's
 sum_is : (c : tie.After-parse_section) → (let s = c.before.before.before.before.before in add s.args.rows c.parse_section.result ≡ add s.args.rows (counted_found s.args.payload.now s.args.found))
 sum_is c =
     let s = c.before.before.before.before.before in
-    ap (add s.args.rows) (c.parse_section.ensures ∙ sym (ap (counted_found s.args.payload.now) c.before.before.found-in-Found-1.given.1))
+    ap (add s.args.rows) (c.parse_section.ensures ∙ sym (ap (counted_found s.args.payload.now) c.before.before.in-Found.is))
 
 enum-known-found : tie.Need-enum_known-found
 enum-known-found c = search rules
@@ -43,23 +43,23 @@ add-t12 : tie.Need-overflow_add-result
 add-t12 c =
     let a = c.before.before.before in
     let s = a.before.before.before.before.before in
-    let half = half-of-size s.args.payload.now _ _ (inside a.before) (sym a.parse_section.ensures ∙ c.before.more-1.given.1) in
+    let half = half-of-size s.args.payload.now _ _ (inside a.before) (sym a.parse_section.ensures ∙ c.before.in-Rows.is) in
     omega (arith, half, (inside a.before).1, s.requires.1, s.requires.2)
 
 returns : tie.Need-returns-in-Refused
 returns c =
     let s = c.before.before.before.before in
-    sym (ap (λ f. add s.args.rows (counted_found s.args.payload.now f)) c.before.found-1.given.1)
+    sym (ap (λ f. add s.args.rows (counted_found s.args.payload.now f)) c.before.in-Refused.is)
 
 returns-2 : tie.Need-returns-in-Refused-parse_section
 returns-2 c =
     let a = c.before.before.before in
-    sym (ap (add a.before.before.before.before.before.args.rows) c.before.refusal-1.given.1) ∙ sum_is a
+    sym (ap (add a.before.before.before.before.before.args.rows) c.before.in-Refused-parse_section.is) ∙ sum_is a
 
 returns-3 : tie.Need-returns-in-Rows
 returns-3 c =
     let a = c.before.before.before in
-    sym (ap (add a.before.before.before.before.before.args.rows) c.before.more-1.given.1) ∙ sum_is a
+    sym (ap (add a.before.before.before.before.before.args.rows) c.before.in-Rows.is) ∙ sum_is a
 
 pub parse_found_spec : {M : Type 1} → statement M
 parse_found_spec =

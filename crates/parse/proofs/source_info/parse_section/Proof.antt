@@ -7,19 +7,19 @@ use Rattle.parse.proofs.source_info.parse_section.Tie as tie
 
 returns : tie.Need-returns-in-SourceContents
 unfolding parse_section
-returns c = rw c.before.enum_told-1.given.1 c.parse_contents.ensures
+returns c = rw c.before.in-SourceContents.is c.parse_contents.ensures
 
 returns-2 : tie.Need-returns-in-SourceNames
 unfolding parse_section
-returns-2 c = rw c.before.enum_told-in-SourceNames-1.given.1 c.parse_names.ensures
+returns-2 c = rw c.before.in-SourceNames.is c.parse_names.ensures
 
 returns-3 : tie.Need-returns-in-Arguments
 unfolding parse_section
-returns-3 c = rw c.before.enum_told-in-Arguments-1.given.1 c.parse_arguments.ensures
+returns-3 c = rw c.before.in-Arguments.is c.parse_arguments.ensures
 
 returns-4 : tie.Need-returns-in-Unknown
 unfolding parse_section
-returns-4 c = rw c.enum_told-in-Unknown-1.given.1
+returns-4 c = rw c.in-Unknown.is
 
 pub parse_section_spec : {M : Type 1} → statement M
 parse_section_spec =

@@ -39,7 +39,7 @@ contents-told c =
     let s = c.before.before.before.before in
     let p = s.args.payload.now in
     let at = s.args.at in
-    let found = is-good (parse_contents p at (u32_at p at)) (section-told s c.enum_told-1.given.1) in
+    let found = is-good (parse_contents p at (u32_at p at)) (section-told s c.in-SourceContents.is) in
     contents-least p at (u32_at p at) found.0 found.1
 
 compression-told :
@@ -79,7 +79,7 @@ unfolding parse_section
 copy-names-requires c κs =
     let t = c.before in
     let s = t.before.before.before.before in
-    (section-told s t.enum_told-in-SourceNames-1.given.1, s.requires.1)
+    (section-told s t.in-SourceNames.is, s.requires.1)
 
 enum-told-3 : tie.Need-enum_told-in-Arguments
 enum-told-3 c = search rules
@@ -121,7 +121,7 @@ returns c =
     let r = w.before in
     let t = r.before.before.before.before in
     let (next, out) = rw (compression-told r.before, r.read_u32.ensures) at w.write_contents.ensures in
-    rw (t.enum_told-1.given.1, joined-one) (next, (omega (arith, contents-told t), out))
+    rw (t.in-SourceContents.is, joined-one) (next, (omega (arith, contents-told t), out))
 
 same-length-2 : tie.Need-shape_of-output-in-SourceNames
 same-length-2 c = search rules
@@ -132,7 +132,7 @@ returns-2 c =
     let n = c.before.before in
     let t = n.before.before in
     let (next, (size, out)) = n.copy_names.ensures in
-    rw (t.enum_told-in-SourceNames-1.given.1, joined-one) (next, (omega (arith, size), out))
+    rw (t.in-SourceNames.is, joined-one) (next, (omega (arith, size), out))
 
 same-length-3 : tie.Need-shape_of-output-in-Arguments
 same-length-3 c = search rules
@@ -149,12 +149,12 @@ returns-3 c =
     let size = u32_at p a.at in
     let long : length (part p a.at size) ≡ size = length_part p a.at size s.requires.1.0 in
     let span : a.at + size - a.at ≡ size = omega arith in
-    rw (t.enum_told-in-Arguments-1.given.1, joined-one)
+    rw (t.in-Arguments.is, joined-one)
     (omega (arith, r.read_u32-size.ensures, long), (omega (arith, r.read_u32-size.ensures), rw (w.write_bytes.ensures, r.read_u32-size.ensures, span)))
 
 returns-4 : tie.Need-returns-in-Unknown
 unfolding section_copy flat_map
-returns-4 c = rw c.enum_told-in-Unknown-1.given.1 (omega arith, (omega arith, refl))
+returns-4 c = rw c.in-Unknown.is (omega arith, (omega arith, refl))
 
 pub copy_section_spec : {M : Type 1} → statement M
 copy_section_spec =

@@ -32,7 +32,7 @@ plain-within c =
     let start = section.before.before.before.before in
     let a = start.args in
     let whole = is-good _ start.requires.0 in
-    contents-within a.payload.now a.at _ whole.0 whole.1 (compression-told section None c.enum_told-1.given.1)
+    contents-within a.payload.now a.at _ whole.0 whole.1 (compression-told section None c.in-None.is)
 
 fill-entries-requires : tie.Need-fill_entries-requires
 fill-entries-requires c κs =
@@ -56,7 +56,7 @@ returns c =
     let plain = head.before.before.before.before in
     let section = plain.before.before in
     let a = section.before.before.before.before.args in
-    rw (compression-told section None plain.enum_told-1.given.1) (
+    rw (compression-told section None plain.in-None.is) (
       omega (arith, count.read_u32-count.ensures, length-walk_entries a.payload.now (content_at a.payload.now) (u32_at a.payload.now (a.at + 24)) (a.at + 28)),
       rw (entries.fill_entries.ensures, count.read_u32-count.ensures, head.store.ensures, head.before.before.plain_contents.ensures, head.before.before.before.read_u32.ensures),
     )
@@ -66,7 +66,7 @@ unfolding store_rows walk_contents
 returns-2 c =
     let head = c.before.before in
     let packed = head.before.before.before in
-    rw (compression-told packed.before.before Zlib packed.enum_told-in-Zlib-1.given.1) (omega arith, rw (head.store-in-Zlib.ensures, head.before.before.packed_row.ensures))
+    rw (compression-told packed.before.before Zlib packed.in-Zlib.is) (omega arith, rw (head.store-in-Zlib.ensures, head.before.before.packed_row.ensures))
 
 -- Besides: no sum wraps, a length keeps its place, and what the callees ask of the numbers holds.
 pub fill_contents_spec : {M : Type 1} → statement M

@@ -39,7 +39,7 @@ fill-contents-requires c κs =
     let told = c.before in
     let section = told.before.before in
     let pre = section.before.before.before.before.requires in
-    (rw (kind-told section SourceContents told.enum_told-1.given.1) at pre.0, pre.1.1)
+    (rw (kind-told section SourceContents told.in-SourceContents.is) at pre.0, pre.1.1)
 
 -- the entries of names, and the pairs of arguments, end within the section
 names-within :
@@ -50,7 +50,7 @@ unfolding parse_section
 names-within c =
     let section = c.before.before in
     let a = section.before.before.before.before.args in
-    let whole = section-told section SourceNames c.enum_told-in-SourceNames-1.given.1 in
+    let whole = section-told section SourceNames c.in-SourceNames.is in
     (names-walk a.payload.now a.at (u32_at a.payload.now a.at) whole.0 whole.1).1
 
 fill-entries-requires : tie.Need-fill_entries-requires
@@ -74,7 +74,7 @@ unfolding parse_section
 arguments-within c =
     let section = c.before.before in
     let a = section.before.before.before.before.args in
-    let whole = section-told section Arguments c.enum_told-in-Arguments-1.given.1 in
+    let whole = section-told section Arguments c.in-Arguments.is in
     (arguments-walk a.payload.now a.at (u32_at a.payload.now a.at) whole.0 whole.1).1
 
 fill-pairs-requires : tie.Need-fill_pairs-requires
@@ -95,7 +95,7 @@ unfolding walk_section
 returns c =
     let call = c.before.before in
     let told = call.before.before in
-    rw (kind-told told.before.before SourceContents told.enum_told-1.given.1) call.fill_contents.ensures
+    rw (kind-told told.before.before SourceContents told.in-SourceContents.is) call.fill_contents.ensures
 
 returns-2 : tie.Need-returns-in-SourceNames
 unfolding store_rows walk_section
@@ -104,7 +104,7 @@ returns-2 c =
     let told = count.before.before.before.before.before.before in
     let section = told.before.before in
     let a = section.before.before.before.before.args in
-    rw (kind-told section SourceNames told.enum_told-in-SourceNames-1.given.1) (
+    rw (kind-told section SourceNames told.in-SourceNames.is) (
       omega (arith, count.read_u32-count.ensures, length-walk_entries a.payload.now (name_at a.payload.now) (u32_at a.payload.now (a.at + 12)) (a.at + 18)),
       rw (c.before.before.fill_entries.ensures, count.read_u32-count.ensures, count.before.before.before.store.ensures, count.before.before.before.before.before.names.ensures),
     )
@@ -116,7 +116,7 @@ returns-3 c =
     let told = count.before.before.before.before.before.before in
     let section = told.before.before in
     let a = section.before.before.before.before.args in
-    rw (kind-told section Arguments told.enum_told-in-Arguments-1.given.1) (
+    rw (kind-told section Arguments told.in-Arguments.is) (
       omega (arith, count.read_u32-count-in-Arguments.ensures, length-walk_pairs a.payload.now (u32_at a.payload.now (a.at + 16)) (a.at + 20)),
       rw (c.before.before.fill_pairs.ensures, count.read_u32-count-in-Arguments.ensures, count.before.before.before.store-in-Arguments.ensures, count.before.before.before.before.before.arguments.ensures),
     )
@@ -126,7 +126,7 @@ unfolding store_rows walk_section
 returns-4 c =
     let head = c.before.before in
     let told = head.before.before.before.before in
-    rw (kind-told told.before.before _ told.kind-1.given.1) (omega arith, rw (head.store-in-Unknown.ensures, head.before.before.unknown_row.ensures))
+    rw (kind-told told.before.before _ told.in-Unknown.is) (omega arith, rw (head.store-in-Unknown.ensures, head.before.before.unknown_row.ensures))
 
 pub fill_section_spec : {M : Type 1} → statement M
 fill_section_spec =

@@ -58,7 +58,7 @@ enum-known-refusal c = search rules
 returns : tie.Need-returns-in-Refused invariant-loop decreases-loop
 returns c =
     let r = c.before.before.before in
-    let told = sym r.check_row.ensures ∙ c.before.refusal-1.given.1 in
+    let told = sym r.check_row.ensures ∙ c.before.in-Refused.is in
     sym (ap measured (turn r.before ∙ measure-refused _ _ _ _ _ _ told))
 
 enum_told : tie.Need-enum_told-1 invariant-loop decreases-loop
@@ -77,7 +77,7 @@ loop-again : tie.Need-loop-index-preserved invariant-loop decreases-loop
 loop-again c =
     let r = c.before.before.before in
     let l = r.before.before.before.loop-index in
-    let told = sym r.check_row.ensures ∙ c.before.enum_told-1.given.1 in (
+    let told = sym r.check_row.ensures ∙ c.before.in-Passed.is in (
       omega arith,
       rw c.count_row-sizes.ensures (sym (turn r.before ∙ measure-passed _ _ _ _ _ told)),
     )

@@ -12,48 +12,48 @@ use Rattle.rows.proofs.rule.check_texts.Tie as tie
 
 returns : tie.Need-returns-in-Content
 unfolding spans_by check_texts
-returns c = rw c.before.enum_told-1.given.1 (c.check_span.ensures ∙ last-text _)
+returns c = rw c.before.in-Content.is (c.check_span.ensures ∙ last-text _)
 
 returns-2 : tie.Need-returns-in-Name
 unfolding spans_by check_texts
-returns-2 c = rw c.before.enum_told-in-Name-1.given.1 (c.check_span-in-Name.ensures ∙ last-text _)
+returns-2 c = rw c.before.in-Name.is (c.check_span-in-Name.ensures ∙ last-text _)
 
 returns-3 : tie.Need-returns-in-Refused
 unfolding spans_by check_texts
 returns-3 c =
     let first = c.before.before.before in
-    rw first.before.enum_told-in-Pair-1.given.1 (sym (ap verdict (after-fault _ _ (not-passed _ _ (sym first.check_span-in-Pair.ensures ∙ c.before.refusal-1.given.1)))))
+    rw first.before.in-Pair.is (sym (ap verdict (after-fault _ _ (not-passed _ _ (sym first.check_span-in-Pair.ensures ∙ c.before.in-Refused.is)))))
 
 returns-4 : tie.Need-returns-in-Passed
 unfolding spans_by check_texts
 returns-4 c =
     let first = c.before.before.before in
-    rw first.before.enum_told-in-Pair-1.given.1
-    (c.check_span-in-Passed.ensures ∙ last-text _ ∙ sym (ap verdict (after-good _ _ (passed _ (sym first.check_span-in-Pair.ensures ∙ c.before.enum_told-in-Passed-1.given.1)))))
+    rw first.before.in-Pair.is
+    (c.check_span-in-Passed.ensures ∙ last-text _ ∙ sym (ap verdict (after-good _ _ (passed _ (sym first.check_span-in-Pair.ensures ∙ c.before.in-Passed.is)))))
 
 returns-5 : tie.Need-returns-in-PlainContents
 unfolding spans_by check_texts
-returns-5 c = rw c.enum_told-in-PlainContents-1.given.1
+returns-5 c = rw c.in-PlainContents.is
 
 returns-6 : tie.Need-returns-in-PackedContents
 unfolding spans_by check_texts
-returns-6 c = rw c.enum_told-in-PackedContents-1.given.1
+returns-6 c = rw c.in-PackedContents.is
 
 returns-7 : tie.Need-returns-in-Names
 unfolding spans_by check_texts
-returns-7 c = rw c.enum_told-in-Names-1.given.1
+returns-7 c = rw c.in-Names.is
 
 returns-8 : tie.Need-returns-in-Arguments
 unfolding spans_by check_texts
-returns-8 c = rw c.enum_told-in-Arguments-1.given.1
+returns-8 c = rw c.in-Arguments.is
 
 returns-9 : tie.Need-returns-in-Unknown
 unfolding spans_by check_texts
-returns-9 c = rw c.enum_told-in-Unknown-1.given.1
+returns-9 c = rw c.in-Unknown.is
 
 returns-10 : tie.Need-returns-in-None
 unfolding spans_by check_texts
-returns-10 c = rw c.enum_told-in-None-1.given.1
+returns-10 c = rw c.in-None.is
 
 pub check_texts_spec : {M : Type 1} → statement M
 check_texts_spec =

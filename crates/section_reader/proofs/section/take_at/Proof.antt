@@ -21,11 +21,11 @@ enum-known-section c = search rules
 header :
     (c : tie.After-struct_known-1) → (
     let s = c.before.before.before.before.before.before.args in
-    Header s.payload.now s.at (frame s.payload.now s.at) c.before.before.section-1.given.0.0)
+    Header s.payload.now s.at (frame s.payload.now s.at) c.before.before.in-Found.found)
 header c =
     let f = c.before.before in
     let s = c.before.before.before.before.before.before.args in
-    section-found s.payload.now s.at (frame s.payload.now s.at) _ (sym f.before.before.section_at-section.ensures ∙ f.section-1.given.1)
+    section-found s.payload.now s.at (frame s.payload.now s.at) _ (sym f.before.before.section_at-section.ensures ∙ f.in-Found.is)
 
 add-next : tie.Need-overflow_add-next
 add-next c =
@@ -39,13 +39,13 @@ returns : tie.Need-returns-in-Found
 returns c =
     let s = c.before.before.before.before.before.before.args in
     let f = c.before.before in
-    taken-by-parts s.payload.now s.at _ _ (sym f.section-1.given.1 ∙ f.before.before.section_at-section.ensures) (sym (ap (place_after s.at) (header c).sized))
+    taken-by-parts s.payload.now s.at _ _ (sym f.in-Found.is ∙ f.before.before.section_at-section.ensures) (sym (ap (place_after s.at) (header c).sized))
 
 returns-2 : tie.Need-returns-in-Refused
 returns-2 c =
     let f = c.before.before in
     let s = f.before.before.args in
-    let refused = section-refused s.payload.now s.at (frame s.payload.now s.at) _ (sym f.section_at-section.ensures ∙ c.enum_told-1.given.1) in
+    let refused = section-refused s.payload.now s.at (frame s.payload.now s.at) _ (sym f.section_at-section.ensures ∙ c.in-Refused.is) in
     taken-by-parts s.payload.now s.at _ _ f.section_at-section.ensures (sym (ap (place_after s.at) refused))
 
 pub take_at_spec : {M : Type 1} → statement M

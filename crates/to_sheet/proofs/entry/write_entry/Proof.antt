@@ -38,7 +38,7 @@ content-read :
     line (entry_at a.payload.now a.kind a.at) ≡ content (part a.payload.now (a.at + 12) c.before.before.text_length-text.result.0))
 content-read c =
     let a = c.before.before.before.before.before.args in
-    rw (c.enum_told-1.given.1, c.before.before.text_length-text.ensures) (is-content a.payload.now a.at)
+    rw (c.in-Content.is, c.before.before.text_length-text.ensures) (is-content a.payload.now a.at)
 
 -- ---- a name
 
@@ -59,7 +59,7 @@ name-read :
     line (entry_at a.payload.now a.kind a.at) ≡ name c.read_u32-size.result (part a.payload.now (a.at + 16) c.before.before.before.before.before.before.before.before.text_length-text.result.0))
 name-read c =
     let a = c.before.before.before.before.before.before.before.before.before.before.before.args in
-    rw (c.before.before.before.before.before.before.enum_told-in-Name-1.given.1, c.before.before.before.before.before.before.before.before.text_length-text.ensures, c.read_u32-size.ensures) (is_name a.payload.now a.at)
+    rw (c.before.before.before.before.before.before.in-Name.is, c.before.before.before.before.before.before.before.before.text_length-text.ensures, c.read_u32-size.ensures) (is_name a.payload.now a.at)
 
 text-length-requires : tie.Need-text_length-text-requires
 text-length-requires c κs = search rules

@@ -52,7 +52,7 @@ as_read :
     flat_map line (contents_records p (compression_at p a.at) a.at) ≡ head r.before.before.before.before.before.before.before.before.before.before.read_u32-field.result ++ entry_lines p (content_at p) r.read_u32-count.result (a.at + 28))
 as_read r =
     let a = r.before.before.before.before.before.before.before.before.before.before.before.before.before.before.before.before.before.before.before.before.before.before.args in
-    rw (compression-told r.before.before.before.before.before.before.before.before.before.before.before.before.before.before.before.before.before.before None r.before.before.before.before.before.before.before.before.before.before.before.before.before.before.before.before.enum_told-1.given.1, r.before.before.before.before.before.before.before.before.before.before.read_u32-field.ensures, r.read_u32-count.ensures) (plain_lines a.payload.now a.at)
+    rw (compression-told r.before.before.before.before.before.before.before.before.before.before.before.before.before.before.before.before.before.before None r.before.before.before.before.before.before.before.before.before.before.before.before.before.before.before.before.in-None.is, r.before.before.before.before.before.before.before.before.before.before.read_u32-field.ensures, r.read_u32-count.ensures) (plain_lines a.payload.now a.at)
 
 -- they fit a sheet
 fits :
@@ -75,7 +75,7 @@ within r =
     let s = r.before.before.before.before.before.before.before.before.before.before.before.before.before.before.before.before.before.before.before.before.before.before in
     let a = s.args in
     let whole = is-good _ s.requires.0 in
-    rw r.read_u32-count.ensures (contents-within a.payload.now a.at _ whole.0 whole.1 (compression-told r.before.before.before.before.before.before.before.before.before.before.before.before.before.before.before.before.before.before None r.before.before.before.before.before.before.before.before.before.before.before.before.before.before.before.before.enum_told-1.given.1))
+    rw r.read_u32-count.ensures (contents-within a.payload.now a.at _ whole.0 whole.1 (compression-told r.before.before.before.before.before.before.before.before.before.before.before.before.before.before.before.before.before.before None r.before.before.before.before.before.before.before.before.before.before.before.before.before.before.before.before.in-None.is))
 
 -- ---- packed contents
 
@@ -90,7 +90,7 @@ packed-read :
     flat_map line (contents_records p (compression_at p a.at) a.at) ≡ line (packed_at p a.at))
 packed-read c =
     let a = c.before.before.before.before.before.before.args in
-    rw (compression-told c.before.before Zlib c.enum_told-in-Zlib-1.given.1) (packed-lines a.payload.now a.at)
+    rw (compression-told c.before.before Zlib c.in-Zlib.is) (packed-lines a.payload.now a.at)
 
 -- ---- the contract
 

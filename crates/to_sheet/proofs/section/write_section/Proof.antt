@@ -49,7 +49,7 @@ names-read :
     flat_map line (section_records p a.kind a.at) ≡ ascii "names\n" ++ entry_lines p (name_at p) r.read_u32-count.result (a.at + 18))
 names-read r =
     let a = r.before.before.before.before.before.before.before.before.before.before.args in
-    rw (r.before.before.before.before.before.before.enum_told-in-SourceNames-1.given.1, r.read_u32-count.ensures) (names-lines a.payload.now a.at)
+    rw (r.before.before.before.before.before.before.in-SourceNames.is, r.read_u32-count.ensures) (names-lines a.payload.now a.at)
 
 arguments-read :
     (r : tie.After-read_u32-count-in-Arguments) →
@@ -58,7 +58,7 @@ arguments-read :
     flat_map line (section_records p a.kind a.at) ≡ ascii "arguments\n" ++ pair_lines p r.read_u32-count-in-Arguments.result (a.at + 20))
 arguments-read r =
     let a = r.before.before.before.before.before.before.before.before.before.before.args in
-    rw (r.before.before.before.before.before.before.enum_told-in-Arguments-1.given.1, r.read_u32-count-in-Arguments.ensures) (arguments-lines a.payload.now a.at)
+    rw (r.before.before.before.before.before.before.in-Arguments.is, r.read_u32-count-in-Arguments.ensures) (arguments-lines a.payload.now a.at)
 
 -- the entries of names end within the section, and arguments have their headers
 names-within :
@@ -68,7 +68,7 @@ unfolding parse_section
 names-within r =
     let s = r.before.before.before.before.before.before.before.before.before.before in
     let a = s.args in
-    let whole = is-good _ (rw r.before.before.before.before.before.before.enum_told-in-SourceNames-1.given.1 at s.requires.0) in
+    let whole = is-good _ (rw r.before.before.before.before.before.before.in-SourceNames.is at s.requires.0) in
     rw r.read_u32-count.ensures (names-walk a.payload.now a.at (u32_at a.payload.now a.at) whole.0 whole.1).1
 
 arguments-within :
@@ -79,7 +79,7 @@ arguments-within r =
     let s = r.before.before.before.before.before.before.before.before.before.before in
     let a = s.args in
     let p = a.payload.now in
-    let whole = is-good _ (rw r.before.before.before.before.before.before.enum_told-in-Arguments-1.given.1 at s.requires.0) in
+    let whole = is-good _ (rw r.before.before.before.before.before.before.in-Arguments.is at s.requires.0) in
     omega (arith, (arguments-walk p a.at (u32_at p a.at) whole.0 whole.1).1, pairs-forward p (u32_at p (a.at + 16)) (a.at + 20))
 
 -- ---- the contract
@@ -92,7 +92,7 @@ unfolding parse_section section_records
 write-contents-requires c κs =
     let told = c.before in
     let s = told.before.before.before.before in
-    let is = told.enum_told-1.given.1 in
+    let is = told.in-SourceContents.is in
     (rw is at s.requires.0, (omega (arith, s.requires.1.0, s.requires.1.1.0), rw is at s.requires.1.1.1))
 
 enum-told-2 : tie.Need-enum_told-in-SourceNames
@@ -156,7 +156,7 @@ write-unknown-requires : tie.Need-write_unknown-requires
 write-unknown-requires c κs =
     let k = c.before.before in
     let s = k.before.before.before.before in
-    (omega (arith, s.requires.1.0, s.requires.1.1.0), rw (← unknown-lines s.args.payload.now _ s.args.at, ← k.kind-1.given.1) s.requires.1.1.1)
+    (omega (arith, s.requires.1.0, s.requires.1.1.0), rw (← unknown-lines s.args.payload.now _ s.args.at, ← k.in-Unknown.is) s.requires.1.1.1)
 
 same_length : tie.Need-shape_of-output-in-SourceContents
 same_length c = search rules
@@ -165,7 +165,7 @@ returns : tie.Need-returns-in-SourceContents
 unfolding section_records
 returns c =
     let w = c.before.before in
-    rw w.before.before.enum_told-1.given.1 w.write_contents.ensures
+    rw w.before.before.in-SourceContents.is w.write_contents.ensures
 
 same-length-2 : tie.Need-shape_of-output-in-SourceNames
 same-length-2 c = search rules
@@ -207,7 +207,7 @@ returns-4 c =
     let w = c.before.before in
     let k = w.before.before.before in
     let a = k.before.before.before.before.args in
-    rw (k.kind-1.given.1, unknown-lines a.payload.now _ a.at) w.write_unknown.ensures
+    rw (k.in-Unknown.is, unknown-lines a.payload.now _ a.at) w.write_unknown.ensures
 
 pub write_section_spec : {M : Type 1} → statement M
 write_section_spec =

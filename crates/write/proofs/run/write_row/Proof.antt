@@ -18,7 +18,7 @@ unfolding row_bytes
 write-content-requires c κs =
     let text = c.before.before.before.text_of-text in
     let start = c.before.before.before.before.before.before.before in
-    rw text.ensures (rw c.before.enum_told-1.given.1 at start.requires)
+    rw text.ensures (rw c.before.in-Content.is at start.requires)
 
 enum-told-2 : tie.Need-enum_told-in-Name
 enum-told-2 c = search rules
@@ -28,7 +28,7 @@ unfolding row_bytes
 write-name-requires c κs =
     let text = c.before.before.before.text_of-text in
     let start = c.before.before.before.before.before.before.before in
-    rw text.ensures (rw c.before.enum_told-in-Name-1.given.1 at start.requires)
+    rw text.ensures (rw c.before.in-Name.is at start.requires)
 
 enum-told-3 : tie.Need-enum_told-in-Pair
 enum-told-3 c = search rules
@@ -41,7 +41,7 @@ unfolding row_bytes
 write-pair-requires c κs =
     let text = c.before.before.before.before.text_of-text in
     let start = c.before.before.before.before.before.before.before.before in
-    rw (text.ensures, c.before.text_of-value.ensures) (rw c.before.before.enum_told-in-Pair-1.given.1 at start.requires)
+    rw (text.ensures, c.before.text_of-value.ensures) (rw c.before.before.in-Pair.is at start.requires)
 
 enum-told-4 : tie.Need-enum_told-in-PlainContents
 enum-told-4 c = search rules
@@ -68,7 +68,7 @@ returns : tie.Need-returns-in-Content
 unfolding row_bytes
 returns c =
     let w = c.before.before in
-    rw (w.before.before.enum_told-1.given.1, ← w.before.before.before.before.text_of-text.ensures) w.write_content.ensures
+    rw (w.before.before.in-Content.is, ← w.before.before.before.before.text_of-text.ensures) w.write_content.ensures
 
 same-length-2 : tie.Need-shape_of-output-in-Name
 same-length-2 c = search rules
@@ -77,7 +77,7 @@ returns-2 : tie.Need-returns-in-Name
 unfolding row_bytes
 returns-2 c =
     let w = c.before.before in
-    rw (w.before.before.enum_told-in-Name-1.given.1, ← w.before.before.before.before.text_of-text.ensures) w.write_name.ensures
+    rw (w.before.before.in-Name.is, ← w.before.before.before.before.text_of-text.ensures) w.write_name.ensures
 
 same-length-3 : tie.Need-shape_of-output-in-Pair
 same-length-3 c = search rules
@@ -86,31 +86,31 @@ returns-3 : tie.Need-returns-in-Pair
 unfolding row_bytes
 returns-3 c =
     let w = c.before.before in
-    rw (w.before.before.before.enum_told-in-Pair-1.given.1, ← w.before.before.before.before.before.text_of-text.ensures, ← w.before.before.text_of-value.ensures) w.write_pair.ensures
+    rw (w.before.before.before.in-Pair.is, ← w.before.before.before.before.before.text_of-text.ensures, ← w.before.before.text_of-value.ensures) w.write_pair.ensures
 
 returns-4 : tie.Need-returns-in-PlainContents
 unfolding row_bytes
-returns-4 c = rw c.enum_told-in-PlainContents-1.given.1 (omega arith, refl)
+returns-4 c = rw c.in-PlainContents.is (omega arith, refl)
 
 returns-5 : tie.Need-returns-in-PackedContents
 unfolding row_bytes
-returns-5 c = rw c.enum_told-in-PackedContents-1.given.1 (omega arith, refl)
+returns-5 c = rw c.in-PackedContents.is (omega arith, refl)
 
 returns-6 : tie.Need-returns-in-Names
 unfolding row_bytes
-returns-6 c = rw c.enum_told-in-Names-1.given.1 (omega arith, refl)
+returns-6 c = rw c.in-Names.is (omega arith, refl)
 
 returns-7 : tie.Need-returns-in-Arguments
 unfolding row_bytes
-returns-7 c = rw c.enum_told-in-Arguments-1.given.1 (omega arith, refl)
+returns-7 c = rw c.in-Arguments.is (omega arith, refl)
 
 returns-8 : tie.Need-returns-in-Unknown
 unfolding row_bytes
-returns-8 c = rw c.enum_told-in-Unknown-1.given.1 (omega arith, refl)
+returns-8 c = rw c.in-Unknown.is (omega arith, refl)
 
 returns-9 : tie.Need-returns-in-None
 unfolding row_bytes
-returns-9 c = rw c.enum_told-in-None-1.given.1 (omega arith, refl)
+returns-9 c = rw c.in-None.is (omega arith, refl)
 
 pub write_row_spec : {M : Type 1} → statement M
 write_row_spec =

@@ -18,7 +18,7 @@ returns : tie.Need-returns-in-Accepted
 returns c = search rules
 
 returns-2 : tie.Need-returns-in-Refused
-returns-2 c = c.number.ensures ∙ sym (ap answer_number c.before.before.self-1.given.1)
+returns-2 c = c.number.ensures ∙ sym (ap answer_number c.before.in-Refused.is)
 
 pub number_spec : {M : Type 1} → statement M
 number_spec = tie.close (tie.spec enum_told enum-known-self number-requires returns returns-2)

@@ -18,7 +18,7 @@ returns : tie.Need-returns-in-Accepted
 returns c = search rules
 
 returns-2 : tie.Need-returns-in-Refused
-returns-2 c = c.second.ensures ∙ sym (ap answer_second c.before.before.self-in-Refused-1.given.1)
+returns-2 c = c.second.ensures ∙ sym (ap answer_second c.before.in-Refused.is)
 
 pub second_spec : {M : Type 1} → statement M
 second_spec = tie.close (tie.spec enum-known-self enum-known-self-2 second-requires returns returns-2)
