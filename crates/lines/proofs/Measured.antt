@@ -20,7 +20,7 @@ use Rattle.sheet.specs.Lines.{split, read_line}
 use Rattle.sheet.proofs.SheetsRead.{read-records}
 use Rattle.sizes.specs.Measure.{sized, measured, nothing, advance, finish, measure_records}
 use Rattle.sizes.specs.declared.sizes.Sizes.{Sizes}
-use Rattle.sizes.proofs.Measured.{measured-records, next-tag}
+use Rattle.sizes.proofs.MeasuredRecords.{measured-records, next-tag}
 use Rattle.sizes.proofs.Sized.{sized-check}
 use Rattle.lines.specs.Measure.{measure_lines}
 

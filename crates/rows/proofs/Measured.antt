@@ -26,7 +26,7 @@ use Rattle.format.proofs.RowRules.{Ruled, RowOk, first-ok}
 use Rattle.format.proofs.SaidSections.{row_record, row_records, sections-said}
 use Rattle.sizes.specs.Measure.{sized, measured, opened, added, advance, nothing, finish, measure_records}
 use Rattle.sizes.specs.declared.sizes.Sizes.{Sizes}
-use Rattle.sizes.proofs.Measured.{next-tag, measured-records}
+use Rattle.sizes.proofs.MeasuredRecords.{next-tag, measured-records}
 use Rattle.sizes.proofs.Sized.{sized-check}
 use Rattle.rows.specs.Measure.{count_row, measure_from}
 

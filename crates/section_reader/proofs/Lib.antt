@@ -1,4 +1,1 @@
-pub mod Call
-pub mod Lending
-pub mod Loan
 pub mod Taken

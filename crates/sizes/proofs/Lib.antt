@@ -1,4 +1,4 @@
 pub mod Capped
 pub mod SectionSizes
-pub mod Measured
+pub mod MeasuredRecords
 pub mod Sized

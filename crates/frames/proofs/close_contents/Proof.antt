@@ -80,7 +80,7 @@ returns c =
     let a = measured.before.before.args in
     let bytes : measured.distance-bytes.result ≡ a.end - (a.start + 28) = omega arith in
     let body : List ℕ = contents_header a.field (compression_number a.compression) (a.end - (a.start + 28)) a.uncompressed a.count in
-    let fields : sixth.write_u32-4.new.0 ≡ sets a.output.now (a.start + 8) body =
+    let fields : sixth.write_u32-4.new.output ≡ sets a.output.now (a.start + 8) body =
     rw (sixth.write_u32-4.ensures, fifth.write_u32-3.ensures, fourth.write_u32-2.ensures, third.write_u16-2.ensures, third.before.to_u16.ensures, second.write_u16.ensures, first.write_u32.ensures, bytes)
     (contents-stored a.output.now a.start a.field (compression_number a.compression) (a.end - (a.start + 28)) a.uncompressed a.count) in
     (closed.close_section.ensures.0, rw (closed.close_section.ensures.1, fields) (body-first body a.output.now a.start a.end SourceContents))

@@ -88,12 +88,12 @@ returns c =
     let zeros : p.padding_length-zeros.result ≡ padding size = p.padding_length-zeros.ensures ∙ ap padding length in
     let whole : measured.distance-length.result + 1 + p.padding_length-zeros.result ≡ aligned size = omega (arith, length, zeros) in
     let many : texted.distance-text.result + 1 ≡ text = ap (λ (n : ℕ). n + 1) texted.distance-text.ensures in
-    let one : first.write_u32.new.0 ≡ sets a.output.now a.start (u32 (aligned size)) =
+    let one : first.write_u32.new.output ≡ sets a.output.now a.start (u32 (aligned size)) =
     first.write_u32.ensures ∙ ap (sets a.output.now a.start) (bytes_of-low 4 _ ∙ ap u32 whole) in
-    let two : second.write_u32-2.new.0 ≡ sets first.write_u32.new.0 (a.start + 4) (u32 0) = second.write_u32-2.ensures in
-    let three : third.write_u32-3.new.0 ≡ sets second.write_u32-2.new.0 (a.start + 8) (u32 text) =
-    third.write_u32-3.ensures ∙ ap (sets second.write_u32-2.new.0 (a.start + 8)) (bytes_of-low 4 _ ∙ ap u32 many) in
-    let fields : third.write_u32-3.new.0 ≡ sets a.output.now a.start (u32 (aligned size) ++ (u32 0 ++ u32 text)) =
+    let two : second.write_u32-2.new.output ≡ sets first.write_u32.new.output (a.start + 4) (u32 0) = second.write_u32-2.ensures in
+    let three : third.write_u32-3.new.output ≡ sets second.write_u32-2.new.output (a.start + 8) (u32 text) =
+    third.write_u32-3.ensures ∙ ap (sets second.write_u32-2.new.output (a.start + 8)) (bytes_of-low 4 _ ∙ ap u32 many) in
+    let fields : third.write_u32-3.new.output ≡ sets a.output.now a.start (u32 (aligned size) ++ (u32 0 ++ u32 text)) =
     three ∙
     ap (λ (l : List ℕ). sets l (a.start + 8) (u32 text)) (two ∙ ap (λ (l : List ℕ). sets l (a.start + 4) (u32 0)) one) ∙
     fields-stored (aligned size) 4 0 (u32 text) a.output.now a.start (a.start + 4) (a.start + 8) refl (omega arith) in (

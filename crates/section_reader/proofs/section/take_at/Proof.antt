@@ -20,16 +20,16 @@ enum-known-section c = search rules
 -- the header of the section that was found
 header :
     (c : tie.After-struct_known-1) → (
-    let s = c.before.before.before.before.before.before.args in
-    Header s.payload.now s.at (frame s.payload.now s.at) c.before.before.in-Found.found)
+    let s = c.before.before.before.before.args in
+    Header s.payload.now s.at (frame s.payload.now s.at) c.before.in-Found.found)
 header c =
-    let f = c.before.before in
-    let s = c.before.before.before.before.before.before.args in
-    section-found s.payload.now s.at (frame s.payload.now s.at) _ (sym f.before.before.section_at-section.ensures ∙ f.in-Found.is)
+    let f = c.before in
+    let s = f.before.before.args in
+    section-found s.payload.now s.at (frame s.payload.now s.at) _ (sym f.before.section_at-section.ensures ∙ f.in-Found.is)
 
 add-next : tie.Need-overflow_add-next
 add-next c =
-    let s = c.before.before.before.before.before.before.args in
+    let s = c.before.before.before.before.args in
     omega (arith, (frame-good s.payload.now s.at _ (header c).sized).within)
 
 enum_told : tie.Need-enum_told-1
@@ -37,14 +37,14 @@ enum_told c = search rules
 
 returns : tie.Need-returns-in-Found
 returns c =
-    let s = c.before.before.before.before.before.before.args in
-    let f = c.before.before in
-    taken-by-parts s.payload.now s.at _ _ (sym f.in-Found.is ∙ f.before.before.section_at-section.ensures) (sym (ap (place_after s.at) (header c).sized))
+    let s = c.before.before.before.before.args in
+    let f = c.before in
+    taken-by-parts s.payload.now s.at _ _ (sym f.in-Found.is ∙ f.before.section_at-section.ensures) (sym (ap (place_after s.at) (header c).sized))
 
 returns-2 : tie.Need-returns-in-Refused
 returns-2 c =
-    let f = c.before.before in
-    let s = f.before.before.args in
+    let f = c.before in
+    let s = c.args in
     let refused = section-refused s.payload.now s.at (frame s.payload.now s.at) _ (sym f.section_at-section.ensures ∙ c.in-Refused.is) in
     taken-by-parts s.payload.now s.at _ _ f.section_at-section.ensures (sym (ap (place_after s.at) refused))
 
