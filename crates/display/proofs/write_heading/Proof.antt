@@ -13,7 +13,7 @@ use Rattle.display.proofs.write_heading.Statement.{statement}
 use Rattle.display.proofs.write_heading.Tie as tie
 
 -- what the two stores leave
-first : (c : tie.After-write_bytes) → (let a = c.before.before.before.before.args in c.write_bytes.new.0 ≡ sets a.output.now 0 (ascii "// Shader Source Info: "))
+first : (c : tie.After-write_bytes) → (let a = c.before.before.before.before.args in c.write_bytes.new.output ≡ sets a.output.now 0 (ascii "// Shader Source Info: "))
 unfolding ascii
 first c = c.write_bytes.ensures
 
@@ -21,7 +21,7 @@ second : (c : tie.After-write_number) →
     (let b = c.before.before.before.before.before in
     let a = b.before.before.before.before.args in
     (c.write_number.result ≡ 23 + length (decimal a.count ++ ascii " section(s)\n"))
-    × ((c.write_number.result ≤ 45) × (c.write_number.new.0 ≡ sets b.write_bytes.new.0 23 (decimal a.count ++ ascii " section(s)\n"))))
+    × ((c.write_number.result ≤ 45) × (c.write_number.new.output ≡ sets b.write_bytes.new.output 23 (decimal a.count ++ ascii " section(s)\n"))))
 unfolding ascii
 second c = let e = c.write_number.ensures in (e.0, (omega (arith, e.1.0), e.1.1))
 
@@ -48,7 +48,7 @@ returns c =
     let b = n.before.before.before.before.before in
     let a = b.before.before.before.before.args in
     let (next, (most, out)) = second n in
-    (omega (arith, whole a.count), (most, rw (out, first b) (sets-joined (ascii "// Shader Source Info: ") (decimal a.count ++ ascii " section(s)\n") a.output.now 0 23 length-first)))
+    (omega (arith, whole a.count), (most, rw (out, first b.before) (sets-joined (ascii "// Shader Source Info: ") (decimal a.count ++ ascii " section(s)\n") a.output.now 0 23 length-first)))
 
 pub write_heading_spec : {M : Type 1} → statement M
 write_heading_spec =

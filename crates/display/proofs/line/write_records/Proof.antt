@@ -26,7 +26,7 @@ same_length : tie.Need-shape_of-output
 same_length c = search rules
 
 -- what is stored first
-started : (c : tie.After-write_bytes) → (let a = c.before.before.before.before.before.before.args in c.write_bytes.new.0 ≡ sets a.output.now a.at (ascii "//   ["))
+started : (c : tie.After-write_bytes) → (let a = c.before.before.before.before.before.before.args in c.write_bytes.new.output ≡ sets a.output.now a.at (ascii "//   ["))
 unfolding ascii
 started c = c.write_bytes.ensures
 

@@ -19,7 +19,7 @@ use Rattle.line_reader.proofs.fields.tag_by.Statement.{statement}
 use Rattle.line_reader.proofs.fields.tag_by.Tie as tie
 
 slice-aggregate-word : tie.Need-slice_bounds-word-end
-slice-aggregate-word c = sym (length-take-le _ _ (let a = c.before.before.args in omega (arith, c.before.before.requires, part-most a.line.now 0 (omega arith))))
+slice-aggregate-word c = sym (length-take-le _ _ (let a = c.before.args in omega (arith, c.before.requires, part-most a.line.now 0 (omega arith))))
 
 -- the first so many tags do not have the word
 abbrev Past : ℕ → tie.After-shared_slice_known-1 → Type 0
@@ -42,57 +42,57 @@ past-1 c = past-0 c.before.before.before.before ∙ word-not tag.PlainContents _
 
 returns-2 : tie.Need-returns-then-are_same-2
 unfolding ascii
-returns-2 c = sym (past-1 c.before.before.before ∙ word-is tag.PackedContents _ _ (sym c.before.are_same-2.ensures ∙ c.if-are_same-2.true))
+returns-2 c = sym (past-1 c.before.before.before.before ∙ word-is tag.PackedContents _ _ (sym c.before.are_same-2.ensures ∙ c.if-are_same-2.true))
 
-past-2 : (c : tie.Else-are_same-2) → Past 2 c.before.before.before.before.before.before.before
+past-2 : (c : tie.Else-are_same-2) → Past 2 c.before.before.before.before.before.before.before.before
 unfolding ascii
 past-2 c = past-1 c.before.before.before ∙ word-not tag.PackedContents _ _ (sym c.before.are_same-2.ensures ∙ c.if-are_same-2.false)
 
-returns-3 : tie.Need-returns-then-are_same-3
+returns-3.before.before : tie.Need-returns-then-are_same-3
 unfolding ascii
 returns-3 c = sym (past-2 c.before.before.before ∙ word-is tag.Names _ _ (sym c.before.are_same-3.ensures ∙ c.if-are_same-3.true))
 
-past-3 : (c : tie.Else-are_same-3) → Past 3 c.before.before.before.before.before.before.before.before.before.before
+past-3 : (c : tie.Else-are_same-3) → Past 3 c.before.before.before.before.before.before.before.before.before.before.before.before
 unfolding ascii
 past-3 c = past-2 c.before.before.before ∙ word-not tag.Names _ _ (sym c.before.are_same-3.ensures ∙ c.if-are_same-3.false)
 
-returns-4 : tie.Need-returns-then-are_same-4
+returns-4.before.before.before : tie.Need-returns-then-are_same-4
 unfolding ascii
 returns-4 c = sym (past-3 c.before.before.before ∙ word-is tag.Arguments _ _ (sym c.before.are_same-4.ensures ∙ c.if-are_same-4.true))
 
-past-4 : (c : tie.Else-are_same-4) → Past 4 c.before.before.before.before.before.before.before.before.before.before.before.before.before
+past-4 : (c : tie.Else-are_same-4) → Past 4 c.before.before.before.before.before.before.before.before.before.before.before.before.before.before.before.before
 unfolding ascii
 past-4 c = past-3 c.before.before.before ∙ word-not tag.Arguments _ _ (sym c.before.are_same-4.ensures ∙ c.if-are_same-4.false)
 
-returns-5 : tie.Need-returns-then-are_same-5
+returns-5.before.before.before.before : tie.Need-returns-then-are_same-5
 unfolding ascii
 returns-5 c = sym (past-4 c.before.before.before ∙ word-is tag.Unknown _ _ (sym c.before.are_same-5.ensures ∙ c.if-are_same-5.true))
 
-past-5 : (c : tie.Else-are_same-5) → Past 5 c.before.before.before.before.before.before.before.before.before.before.before.before.before.before.before.before
+past-5 : (c : tie.Else-are_same-5) → Past 5 c.before.before.before.before.before.before.before.before.before.before.before.before.before.before.before.before.before.before.before.before
 unfolding ascii
 past-5 c = past-4 c.before.before.before ∙ word-not tag.Unknown _ _ (sym c.before.are_same-5.ensures ∙ c.if-are_same-5.false)
 
-returns-6 : tie.Need-returns-then-are_same-6
+returns-6.before.before.before.before.before : tie.Need-returns-then-are_same-6
 unfolding ascii
 returns-6 c = sym (past-5 c.before.before.before ∙ word-is tag.Content _ _ (sym c.before.are_same-6.ensures ∙ c.if-are_same-6.true))
 
-past-6 : (c : tie.Else-are_same-6) → Past 6 c.before.before.before.before.before.before.before.before.before.before.before.before.before.before.before.before.before.before.before
+past-6 : (c : tie.Else-are_same-6) → Past 6 c.before.before.before.before.before.before.before.before.before.before.before.before.before.before.before.before.before.before.before.before.before.before.before.before
 unfolding ascii
 past-6 c = past-5 c.before.before.before ∙ word-not tag.Content _ _ (sym c.before.are_same-6.ensures ∙ c.if-are_same-6.false)
 
-returns-7 : tie.Need-returns-then-are_same-7
+returns-7.before.before.before.before.before.before : tie.Need-returns-then-are_same-7
 unfolding ascii
 returns-7 c = sym (past-6 c.before.before.before ∙ word-is tag.Name _ _ (sym c.before.are_same-7.ensures ∙ c.if-are_same-7.true))
 
-past-7 : (c : tie.Else-are_same-7) → Past 7 c.before.before.before.before.before.before.before.before.before.before.before.before.before.before.before.before.before.before.before.before.before.before
+past-7 : (c : tie.Else-are_same-7) → Past 7 c.before.before.before.before.before.before.before.before.before.before.before.before.before.before.before.before.before.before.before.before.before.before.before.before.before.before.before.before
 unfolding ascii
 past-7 c = past-6 c.before.before.before ∙ word-not tag.Name _ _ (sym c.before.are_same-7.ensures ∙ c.if-are_same-7.false)
 
-returns-8 : tie.Need-returns-then-are_same-8
+returns-8.before.before.before.before.before.before.before : tie.Need-returns-then-are_same-8
 unfolding ascii
 returns-8 c = sym (past-7 c.before.before.before ∙ word-is tag.Pair _ _ (sym c.before.are_same-8.ensures ∙ c.if-are_same-8.true))
 
-past-8 : (c : tie.Else-are_same-8) → Past 8 c.before.before.before.before.before.before.before.before.before.before.before.before.before.before.before.before.before.before.before.before.before.before.before.before.before
+past-8 : (c : tie.Else-are_same-8) → Past 8 c.before.before.before.before.before.before.before.before.before.before.before.before.before.before.before.before.before.before.before.before.before.before.before.before.before.before.before.before.before.before.before.before
 unfolding ascii
 past-8 c = past-7 c.before.before.before ∙ word-not tag.Pair _ _ (sym c.before.are_same-8.ensures ∙ c.if-are_same-8.false)
 

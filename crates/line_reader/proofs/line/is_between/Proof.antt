@@ -8,12 +8,12 @@ use Rattle.line_reader.proofs.line.is_between.Tie as tie
 
 returns : tie.Need-returns-in-Number
 returns c =
-    let (is, same) = number_is _ _ (sym c.before.before.before.read_number.ensures ∙ c.before.in-Number.is) in
+    let (is, same) = number_is _ _ (sym c.before.read_number.ensures ∙ c.in-Number.is) in
     rw (is, same)
 
 returns-2 : tie.Need-returns-in-Malformed
 returns-2 c =
-    let none = number-not _ (sym c.before.before.read_number.ensures ∙ c.in-Malformed.is) in
+    let none = number-not _ (sym c.before.read_number.ensures ∙ c.in-Malformed.is) in
     rw none
 
 pub is_between_spec : {M : Type 1} → statement M

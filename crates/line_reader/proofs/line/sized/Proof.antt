@@ -8,13 +8,13 @@ returns : tie.Need-returns-then-not-good
 returns c = rw (c.if-not-good.true)
 
 returns-2 : tie.Need-returns-in_default
-returns-2 c = rw (c.before.before.if-not-good.false, c.in_default.is)
+returns-2 c = rw (c.before.if-not-good.false, c.in_default.is)
 
 returns-3 : tie.Need-returns-in_default-second
-returns-3 c = rw (c.before.before.before.before.before.if-not-good.false, c.before.before.before.in-Size.is, c.in_default-second.is)
+returns-3 c = rw (c.before.before.if-not-good.false, c.before.in-Size.is, c.in_default-second.is)
 
 returns-4 : tie.Need-returns
-returns-4 c = rw (c.before.before.before.before.before.before.if-not-good.false, c.before.before.before.before.in-Size.is, c.before.in-Size-second.is)
+returns-4 c = rw (c.before.before.if-not-good.false, c.before.in-Size.is, c.in-Size-second.is)
 
 pub sized_spec : {M : Type 1} → statement M
 sized_spec =

@@ -69,7 +69,7 @@ enum_told : tie.Need-enum_told-1
 enum_told c = search rules
 
 cast-t17 : tie.Need-overflow_cast-result
-cast-t17 c = omega (arith, within c.before.before.before.before.before)
+cast-t17 c = omega (arith, within c.before.before.before.before)
 
 enum-told-2 : tie.Need-enum_told-in-IllFormed
 enum-told-2 c = search rules

@@ -44,7 +44,7 @@ check-pair-text-requires-2 c κs =
 value_there :
     (c : tie.After-check_pair_text-in-Text) →
     (let n = c.before.before.before.before in
-    let a = n.before.before.before.before.args in
+    let a = n.before.before.args in
     c.check_pair_text-in-Text.result ≡ maybe_text (pair_text a.payload.now (a.at + wire_size n.in-Text.name.0) a.end))
 value_there c =
     let a = c.before.before.before.before.before.before.before.before.args in
@@ -65,7 +65,7 @@ add-t15 c = search rules
 
 returns : tie.Need-returns-in-Refused
 returns c =
-    let refused = text-refused _ _ (sym c.before.before.before.check_pair_text.ensures ∙ c.before.in-Refused.is) in
+    let refused = text-refused _ _ (sym c.before.check_pair_text.ensures ∙ c.in-Refused.is) in
     sym (ap (place_of after_pair) (pair-no-name _ _ _ refused))
 
 returns-2 : tie.Need-returns-in-Refused-check_pair_text

@@ -48,8 +48,8 @@ turn c =
 
 returns : tie.Need-returns-in-Refused invariant-loop decreases-loop
 returns c =
-    let refused = place-refused after_pair _ _ (sym c.before.before.before.check_pair.ensures ∙ c.before.in-Refused.is) in
-    sym (turn c.before.before.before.before ∙ ap (add _) (pairs-refused _ _ _ _ refused))
+    let refused = place-refused after_pair _ _ (sym c.before.check_pair.ensures ∙ c.in-Refused.is) in
+    sym (turn c.before.before ∙ ap (add _) (pairs-refused _ _ _ _ refused))
 
 enum-known-next : tie.Need-enum_known-next invariant-loop decreases-loop
 enum-known-next c = search rules
@@ -63,7 +63,7 @@ loop-less c = omega arith
 loop-again : tie.Need-loop-done-preserved invariant-loop decreases-loop
 loop-again c =
     let i = c.before.before.before.before in
-    let a = i.before.before.before.args in
+    let a = i.before.args in
     let here = pair a.payload.now i.before.loop-done.at a.end in
     let found = place_found after_pair here c.before.in-At.next (sym c.before.before.before.check_pair.ensures ∙ c.before.in-At.is) in (
       omega (arith, (pair-good _ _ _ found.0 found.1).1, found.2),

@@ -73,20 +73,20 @@ returns-3 : tie.Need-returns-in-Refused
 unfolding parse_arguments check then
 returns-3 c =
     let f = c.before.before.before in
-    let refused = not-passed (framing f.before.before.before.before.before.before) _ (sym (framed_answer f) ∙ c.before.in-Refused.is) in
+    let refused = not-passed (framing f.before.before.before.before) _ (sym (framed_answer f) ∙ c.before.in-Refused.is) in
     rw (long f.before.before.before.before, no_flag f.before.before, refused)
 
 enum_told : tie.Need-enum_told-1
 enum_told c = search rules
 
-whole : (c : tie.In_default) → framing c.before.before.before.before.before.before.before.before ≡ good tt
-whole c = passed _ (sym (framed_answer c.before.before) ∙ c.in_default.is)
+whole : (c : tie.In_default) → framing c.before.before.before.before.before.before.before ≡ good tt
+whole c = passed _ (sym (framed_answer c.before) ∙ c.in_default.is)
 
 -- the pair bytes lie within the section
 within :
     (c : tie.In_default) →
     (let b = c.before.before.before in
-    let a = b.before.before.before.before.before.args in
+    let a = b.before.before.before.before.args in
     a.at + 20 + b.read_u32-bytes.result ≤ length a.payload.now)
 within c =
     let b = c.before.before.before in
@@ -128,16 +128,16 @@ add-t19 c = omega (arith, few c.before.before.before c.before.in-Rows.pairs c.be
 -- the answer of `check_pairs`, with the section's own row
 answer :
     (c : tie.After-check_pairs) →
-    (let a = c.before.before.before.before.before.before.before.before.before.before.args in
+    (let a = c.before.before.before.before.before.before.before.before.before.args in
     counted (parse_arguments a.payload.now a.at a.size) ≡ add 1 c.check_pairs.result)
 unfolding parse_arguments check then
 answer c =
     let t = c.before.before in
     let b = t.before.before.before in
-    let a = b.before.before.before.before.before.args in
+    let a = b.before.before.before.before.args in
     let p = a.payload.now in
     let rest = pairs (u32_at p (a.at + 16)) p (a.at + 20) (a.at + 20 + u32_at p (a.at + 12)) in
-    rw (long b.before.before.before, no_flag b.before, whole t) (counted-more (arguments_row) rest)
+    rw (long b.before.before, no_flag b, whole t) (counted-more (arguments_row) rest)
     ∙ ap (add 1) (sym (rw (b.read_u32-bytes.ensures, c.before.read_u32-count.ensures) at c.check_pairs.ensures))
 
 returns-4 : tie.Need-returns-in-Refused-check_pairs

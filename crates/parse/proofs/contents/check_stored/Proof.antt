@@ -16,11 +16,11 @@ use Rattle.parse.proofs.contents.check_stored.Statement.{statement}
 use Rattle.parse.proofs.contents.check_stored.Tie as tie
 
 -- past its test a plain section has one row more than entries
-whole : (e : tie.After-check_entries) → (let a = e.before.before.before.before.before.before.before.args in counted (parse_stored a.compression a.payload.now a.at) ≡ add 1 e.check_entries.result)
+whole : (e : tie.After-check_entries) → (let a = e.before.before.before.before.before.before.args in counted (parse_stored a.compression a.payload.now a.at) ≡ add 1 e.check_entries.result)
 whole e =
     let r = e.before.before.before in
-    let a = r.before.before.before.before.args in
-    let bytes = r.before.before.before.before.requires.0 in
+    let a = r.before.before.before.args in
+    let bytes = r.before.before.before.requires.0 in
     ap (λ (k : SourceCompression). counted (parse_stored k a.payload.now a.at)) r.before.in_default.is
     ∙ ap counted (plain-rest a.payload.now a.at (sym r.read_u32.ensures ∙ e.before.before.if-read_u32-bytes.false ∙ bytes))
     ∙ counted-more _ _
@@ -34,7 +34,7 @@ enum_told c = search rules
 returns : tie.Need-returns-in-Zlib
 unfolding parse_stored
 returns c =
-    let a = c.before.before.before.args in
+    let a = c.before.before.args in
     sym (ap (λ (k : SourceCompression). counted (parse_stored k a.payload.now a.at)) c.in-Zlib.is)
 
 enum-told-2 : tie.Need-enum_told-in_default
@@ -48,8 +48,8 @@ read-u32-requires c κs = search rules
 
 returns-2 : tie.Need-returns-then-read_u32-bytes
 returns-2 c =
-    let a = c.before.before.before.before.before.args in
-    let bytes = c.before.before.before.before.before.requires.0 in
+    let a = c.before.before.before.before.args in
+    let bytes = c.before.before.before.before.requires.0 in
     sym
     (ap (λ (k : SourceCompression). counted (parse_stored k a.payload.now a.at)) c.before.before.in_default.is
     ∙ ap counted (plain-unequal a.payload.now a.at (λ e. c.if-read_u32-bytes.true (c.before.read_u32.ensures ∙ e ∙ sym bytes))))
@@ -83,10 +83,10 @@ add-t16 c =
     omega (arith, entries-bound 12 _ _ content_row_at _ _ rs found, count, pre.1.0, pre.1.1)
 
 returns-3 : tie.Need-returns-in-Refused
-returns-3 c = sym (whole c.before.before.before ∙ ap (add 1) c.before.in-Refused.is)
+returns-3 c = sym (whole c.before ∙ ap (add 1) c.in-Refused.is)
 
 returns-4 : tie.Need-returns-in-Rows
-returns-4 c = sym (whole c.before.before.before ∙ ap (add 1) c.before.in-Rows.is)
+returns-4 c = sym (whole c.before ∙ ap (add 1) c.in-Rows.is)
 
 pub check_stored_spec : {M : Type 1} → statement M
 check_stored_spec =

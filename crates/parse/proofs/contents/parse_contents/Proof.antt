@@ -25,16 +25,16 @@ use Rattle.parse.proofs.contents.parse_contents.Tie as tie
 -- past the first three tests the definition goes on to the frame, and the frame's check is that of the definition
 module _ (s : tie.After-check_framed) where
   abbrev payload : List ℕ
-  payload = s.before.before.before.before.before.before.before.before.before.before.before.args.payload.now
+  payload = s.before.before.before.before.before.before.before.before.before.args.payload.now
 
   abbrev at : ℕ
-  at = s.before.before.before.before.before.before.before.before.before.before.before.args.at
+  at = s.before.before.before.before.before.before.before.before.before.args.at
 
   abbrev size : ℕ
-  size = s.before.before.before.before.before.before.before.before.before.before.before.args.size
+  size = s.before.before.before.before.before.before.before.before.before.args.size
 
   -- the compression that was found is that of the number on the wire
-  known : (u16_at payload (at + 14) ≤ 1) × (checked_compression (u16_at payload (at + 14)) ≡ s.before.before.before.in-Known.compression)
+  known : (u16_at payload (at + 14) ≤ 1) × (checked_compression (u16_at payload (at + 14)) ≡ s.before.before.in-Known.compression)
   known =
       let n = s.before.before.before.before.before in
       known-compression _ _ (ap compression (sym n.before.read_u16-number.ensures) ∙ sym n.from_u16.ensures ∙ s.before.before.before.in-Known.is)
@@ -42,7 +42,7 @@ module _ (s : tie.After-check_framed) where
   rest : parse_contents payload at size ≡ then (framed payload at size 28 (u32_at payload (at + 16))) (λ _. parse_stored (checked_compression (u16_at payload (at + 14))) payload at)
   rest =
       let n = s.before.before.before.before.before.before in
-      contents-rest payload at size (omega arith) (sym n.before.before.read_u16.ensures ∙ n.before.if-read_u16-ne0.left) known.0
+      contents-rest payload at size (omega arith) (sym n.read_u16.ensures ∙ n.before.if-read_u16-ne0.left) known.0
 
   framed_is : verdict (framed payload at size 28 (u32_at payload (at + 16))) ≡ s.check_framed.result
   framed_is = ap (λ (b : ℕ). verdict (framed payload at size 28 b)) (sym s.before.read_u32-bytes.ensures) ∙ sym s.check_framed.ensures
@@ -87,11 +87,11 @@ enum_told c = search rules
 returns-3 : tie.Need-returns-in_default
 returns-3 c =
     let n = c.before.before in
-    let a = n.before.before.before.before.before.before.args in
+    let a = n.before.before.before.before.before.args in
     sym
     (ap counted
-    (contents-unknown a.payload.now a.at a.size (omega arith) (sym n.before.before.before.read_u16.ensures ∙ n.before.before.if-read_u16-ne0.false)
-    (unknown-number _ (ap compression (sym n.before.read_u16-number.ensures) ∙ sym n.from_u16.ensures ∙ c.in_default.is))))
+    (contents-unknown a.payload.now a.at a.size (omega arith) (sym n.before.before.read_u16.ensures ∙ n.before.if-read_u16-ne0.false)
+    (unknown-number _ (ap compression (sym n.read_u16-number.ensures) ∙ sym n.from_u16.ensures ∙ c.in_default.is))))
 
 add-read-u32 : tie.Need-overflow_add-at-3
 add-read-u32 c = search rules
@@ -111,7 +111,7 @@ enum-told-2 c = search rules
 check-stored-requires : tie.Need-check_stored-requires
 check-stored-requires c κs =
     let s = c.before.before in
-    (s.before.read_u32-bytes.ensures, (omega (arith, fits s c.in-Passed.is, s.before.read_u32-bytes.ensures), omega arith))
+    (s.read_u32-bytes.ensures, (omega (arith, fits s c.in-Passed.is, s.before.read_u32-bytes.ensures), omega arith))
 
 returns-4 : tie.Need-returns-in-Refused
 returns-4 c =

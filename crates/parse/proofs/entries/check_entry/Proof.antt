@@ -62,14 +62,14 @@ enum_told c = search rules
 returns-3 : tie.Need-returns-in_default
 unfolding entry check
 returns-3 c =
-    let s = c.before.before.before.before.before.before.before.before.args in
-    let size = c.before.before.before.read_u32-size.result in
-    let none : size ≡ 0 = no_text size (omega arith) (sym c.before.before.text_length.ensures ∙ c.in_default.is) in
+    let s = c.before.before.before.before.before.before.before.args in
+    let size = c.before.before.read_u32-size.result in
+    let none : size ≡ 0 = no_text size (omega arith) (sym c.before.text_length.ensures ∙ c.in_default.is) in
     rw (
-      ← c.before.before.before.before.before.read_u32.ensures,
-      ← c.before.before.before.read_u32-size.ensures,
+      ← c.before.before.before.before.read_u32.ensures,
+      ← c.before.before.read_u32-size.ensures,
       le-leb (s.at + s.header) s.end (omega arith),
-      eq-eqb _ 0 c.before.before.before.before.if-read_u32-ne0.false,
+      eq-eqb _ 0 c.before.before.before.if-read_u32-ne0.false,
       none,
     )
 
@@ -122,7 +122,7 @@ returns-4 c =
 returns-5 : tie.Need-returns-then-left-aligned
 unfolding check
 returns-5 c =
-    let s = c.before.before.before.before.before.before.before.before.before.before.before.before.before.args in
+    let s = c.before.before.before.before.before.before.before.before.before.before.before.args in
     rw (
       sized c.before.before.before.before.before,
       ← c.before.before.before.align4-aligned.ensures,
@@ -140,23 +140,23 @@ add-terminated-utf8-2 c = search rules
 terminated-utf8-requires : tie.Need-terminated_utf8-requires
 terminated-utf8-requires c κs =
     let t = c.before.before.before.before.before in
-    let fits = le-aligned (t.before.before.before.before.before.before.before.before.args.header + t.before.before.before.read_u32-size.result) in
+    let fits = le-aligned (t.before.before.before.before.before.before.args.header + t.before.read_u32-size.result) in
     (omega (arith, counts t), omega arith)
 
 -- what is left of them once the entry is known to end within its bytes
 bounded :
     (c : tie.Else-left-aligned) → (
     let t = c.before.before.before.before.before in
-    let s = t.before.before.before.before.before.before.before.before.args in
+    let s = t.before.before.before.before.before.before.args in
     let p = s.payload.now in
-    let size = t.before.before.before.read_u32-size.result in
+    let size = t.before.read_u32-size.result in
     entry s.header p s.at s.end
     ≡ then (terminated_text p (s.at + s.header) size (padding (s.header + size))) (λ _.
     good (size - 1)))
 unfolding check
 bounded c =
     let t = c.before.before.before.before.before in
-    let s = t.before.before.before.before.before.before.before.before.args in
+    let s = t.before.before.before.before.before.before.args in
     rw (
       sized t,
       ← c.before.before.before.align4-aligned.ensures,
@@ -169,14 +169,14 @@ bounded c =
 filled :
     (c : tie.After-terminated_utf8) → (
     let t = c.before.before.before.before.before.before in
-    let s = t.before.before.before.before.before.before.before.before.args in
-    let size = t.before.before.before.read_u32-size.result in
+    let s = t.before.before.before.before.before.before.args in
+    let size = t.before.read_u32-size.result in
     c.terminated_utf8.result ≡ verdict (terminated_text s.payload.now (s.at + s.header) size (padding (s.header + size))))
 unfolding aligned
 filled c =
     let t = c.before.before.before.before.before.before in
-    let s = t.before.before.before.before.before.before.before.before.args in
-    let size = t.before.before.before.read_u32-size.result in
+    let s = t.before.before.before.before.before.before.args in
+    let size = t.before.read_u32-size.result in
     let end = s.at + c.before.before.before.before.align4-aligned.result in
     let zeros : end - (s.at + s.header + wire_size t.in-Text.text.0) ≡ padding (s.header + size) = omega (arith, counts t) in
     rw (zeros, ← counts t) at c.terminated_utf8.ensures
@@ -194,8 +194,8 @@ returns-6 : tie.Need-returns-in-Passed
 unfolding then
 returns-6 c =
     let t = c.before.before.before.before.before.before.before.before in
-    let s = t.before.before.before.before.before.before.before.before.args in
-    let size = t.before.before.before.read_u32-size.result in
+    let s = t.before.before.before.before.before.args in
+    let size = t.read_u32-size.result in
     let text = terminated_text s.payload.now (s.at + s.header) size (padding (s.header + size)) in
     let back : wire_size (size - 1) ≡ size = omega (arith, counts t) in
     rw (
@@ -209,7 +209,7 @@ returns-7 : tie.Need-returns-in-Refused
 unfolding then
 returns-7 c =
     let t = c.before.before.before.before.before.before.before.before.before in
-    let s = t.before.before.before.before.before.before.before.before.args in
+    let s = t.before.before.before.before.args in
     let size = t.before.before.before.read_u32-size.result in
     let text = terminated_text s.payload.now (s.at + s.header) size (padding (s.header + size)) in
     rw (

@@ -58,9 +58,9 @@ closed c =
 returns-2 : tie.Need-returns-in-Refused
 unfolding then
 returns-2 c =
-    let s = c.before.before.before.before.before.before.before.before.args in
+    let s = c.before.before.before.before.before.before.args in
     let text = check_text s.payload.now s.at s.text.0 in
-    rw (closed c.before.before.before.before, not-passed text _ (sym c.before.before.before.check_text.ensures ∙ c.before.in-Refused.is))
+    rw (closed c.before.before, not-passed text _ (sym c.before.check_text.ensures ∙ c.in-Refused.is))
 
 enum_told : tie.Need-enum_told-1
 enum_told c = search rules
@@ -86,16 +86,16 @@ zeros-requires c κs = search rules
 -- what is left of the tests once the text is known to be one
 texted :
     (c : tie.After-zeros) → (
-    let s = c.before.before.before.before.before.before.before.before.before.before.before.args in
+    let s = c.before.before.before.before.before.before.before.before.before.before.args in
     let n = s.text.0 in
     terminated_text s.payload.now s.at (wire_size n) (s.next - (s.at + wire_size n)) ≡ check c.zeros.result Padding (λ _. good tt))
 unfolding then
 texted c =
-    let s = c.before.before.before.before.before.before.before.before.before.before.before.args in
+    let s = c.before.before.before.before.before.before.before.before.before.before.args in
     let text = check_text s.payload.now s.at s.text.0 in
     rw (
-      closed c.before.before.before.before.before.before.before,
-      passed text (sym c.before.before.before.before.before.before.check_text.ensures ∙ c.before.before.before.before.in_default.is),
+      closed c.before.before.before.before.before.before,
+      passed text (sym c.before.before.before.before.before.check_text.ensures ∙ c.before.before.before.before.in_default.is),
       ← c.before.before.before.wire_size.ensures,
       ← c.zeros.ensures,
     )

@@ -76,7 +76,7 @@ loop-less c = omega arith
 loop-again : tie.Need-loop-index-preserved invariant-loop decreases-loop
 loop-again c =
     let r = c.before.before.before in
-    let l = r.before.before.before.loop-index in
+    let l = r.before.before.loop-index in
     let told = sym r.check_row.ensures ∙ c.before.in-Passed.is in (
       omega arith,
       rw c.count_row-sizes.ensures (sym (turn r.before ∙ measure-passed _ _ _ _ _ told)),

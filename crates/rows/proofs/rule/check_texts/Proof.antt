@@ -28,7 +28,7 @@ returns-4 : tie.Need-returns-in-Passed
 unfolding spans_by check_texts
 returns-4 c =
     let first = c.before.before.before in
-    rw first.before.in-Pair.is
+    rw first.in-Pair.is
     (c.check_span-in-Passed.ensures ∙ last-text _ ∙ sym (ap verdict (after-good _ _ (passed _ (sym first.check_span-in-Pair.ensures ∙ c.before.in-Passed.is)))))
 
 returns-5 : tie.Need-returns-in-PlainContents
