@@ -78,6 +78,7 @@ fn field_count(tag: Tag) -> usize
 }
 
 // The sizes of a line of a tag by its fields, where each is one.
+#[tactic(auto, unfolding(crate::specs::LineTold::line_sizes))]
 fn measure(line: &[u8], ends: Ends, tag: Tag, number: u32) -> LineCheck
     requires { ends ≡ ends_of line.now }
     ensures { result ≡ line_sizes (BadLine number) tag (split tab line.now).rest }

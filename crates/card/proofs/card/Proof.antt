@@ -14,10 +14,10 @@ use Rattle.card.proofs.card.Statement.{statement}
 use Rattle.card.proofs.card.Tie as tie
 
 -- the payload is accepted where the first pass finds rows
-whole : (c : tie.In-Rows) → AcceptedPayload c.before.before.before.before.before.args.payload.now
+whole : (c : tie.In-Rows) → AcceptedPayload c.before.before.before.before.args.payload.now
 unfolding accepted
 whole c =
-    let parsed = c.before.before in
+    let parsed = c.before in
     let p = parsed.before.before.before.args.payload.now in (
       λ k. omega (arith, parsed.before.before.shared_slice_known-1.given k),
       ap is_good (rows-counted (parse p) _ (sym parsed.parse_srci.ensures ∙ c.in-Rows.is)).1,
@@ -52,7 +52,7 @@ unfolding card_answer card_output
 returns c =
     let w = c.before.before.before in
     let found = w.before.before in
-    let a = found.before.before.before.before.before.args in
+    let a = found.before.before.before.before.args in
     met-short card-by-walk a.payload.now a.output.now (whole found) w.write_card-size.ensures (omega arith)
 
 write-card-requires-2 : tie.Need-write_card-requires
@@ -61,9 +61,9 @@ write-card-requires-2 c κs = search rules
 returns-2 : tie.Need-returns-in-Refused
 unfolding card_answer card_output
 returns-2 c =
-    let parsed = c.before.before.before in
+    let parsed = c.before in
     let a = parsed.before.before.before.args in
-    met-refused card-by-walk a.payload.now a.output.now (rows-refused _ _ (sym parsed.parse_srci.ensures ∙ c.before.in-Refused.is))
+    met-refused card-by-walk a.payload.now a.output.now (rows-refused _ _ (sym parsed.parse_srci.ensures ∙ c.in-Refused.is))
 
 same-length-2 : tie.Need-shape_of-output
 same-length-2 c = search rules
@@ -74,7 +74,7 @@ returns-3 c =
     let second = c.before.before in
     let w = second.before.before.before.before.before in
     let found = w.before.before in
-    let a = found.before.before.before.before.before.args in
+    let a = found.before.before.before.before.args in
     met-stored card-by-walk a.payload.now a.output.now (whole found) w.write_card-size.ensures (omega (arith, second.before.before.if-output-size.false)) second.write_card.ensures.1
 
 pub card_spec : {M : Type 1} → statement M

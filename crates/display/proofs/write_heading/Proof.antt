@@ -13,15 +13,15 @@ use Rattle.display.proofs.write_heading.Statement.{statement}
 use Rattle.display.proofs.write_heading.Tie as tie
 
 -- what the two stores leave
-first : (c : tie.After-write_bytes) → (let a = c.before.before.before.before.args in c.write_bytes.new.output ≡ sets a.output.now 0 (ascii "// Shader Source Info: "))
+first : (c : tie.After-write_bytes) → (let a = c.before.before.before.before.before.args in c.write_bytes.new.output ≡ sets a.output.now 0 (ascii "// Shader Source Info: "))
 unfolding ascii
 first c = c.write_bytes.ensures
 
 second : (c : tie.After-write_number) →
     (let b = c.before.before.before.before.before in
-    let a = b.before.before.before.before.args in
+    let a = b.before.before.before.before.before.before.args in
     (c.write_number.result ≡ 23 + length (decimal a.count ++ ascii " section(s)\n"))
-    × ((c.write_number.result ≤ 45) × (c.write_number.new.output ≡ sets b.write_bytes.new.output 23 (decimal a.count ++ ascii " section(s)\n"))))
+    × ((c.write_number.result ≤ 45) × (c.write_number.new.output ≡ sets b.before.write_bytes.new.output 23 (decimal a.count ++ ascii " section(s)\n"))))
 unfolding ascii
 second c = let e = c.write_number.ensures in (e.0, (omega (arith, e.1.0), e.1.1))
 
@@ -46,7 +46,7 @@ returns : tie.Need-returns
 returns c =
     let n = c.before.before in
     let b = n.before.before.before.before.before in
-    let a = b.before.before.before.before.args in
+    let a = b.before.before.before.before.before.before.args in
     let (next, (most, out)) = second n in
     (omega (arith, whole a.count), (most, rw (out, first b.before) (sets-joined (ascii "// Shader Source Info: ") (decimal a.count ++ ascii " section(s)\n") a.output.now 0 23 length-first)))
 

@@ -14,15 +14,15 @@ use Rattle.display.proofs.write_refused.Statement.{statement}
 use Rattle.display.proofs.write_refused.Tie as tie
 
 -- what the two stores leave
-first : (c : tie.After-write_bytes) → (let a = c.before.before.before.before.args in c.write_bytes.new.output ≡ sets a.output.now 0 (ascii "// refused "))
+first : (c : tie.After-write_bytes) → (let a = c.before.before.before.before.before.args in c.write_bytes.new.output ≡ sets a.output.now 0 (ascii "// refused "))
 unfolding ascii
 first c = c.write_bytes.ensures
 
 second : (c : tie.After-write_number) →
     (let b = c.before.before.before.before.before in
-    let a = b.before.before.before.before.args in
+    let a = b.before.before.before.before.before.before.args in
     (c.write_number.result ≡ 11 + length (decimal a.number ++ ascii "\n"))
-    × ((c.write_number.result ≤ 22) × (c.write_number.new.output ≡ sets b.write_bytes.new.output 11 (decimal a.number ++ ascii "\n"))))
+    × ((c.write_number.result ≤ 22) × (c.write_number.new.output ≡ sets b.before.write_bytes.new.output 11 (decimal a.number ++ ascii "\n"))))
 unfolding ascii
 second c = let e = c.write_number.ensures in (e.0, (omega (arith, e.1.0), e.1.1))
 
@@ -47,7 +47,7 @@ returns : tie.Need-returns
 returns c =
     let n = c.before.before in
     let b = n.before.before.before.before.before in
-    let a = b.before.before.before.before.args in
+    let a = b.before.before.before.before.before.before.args in
     let (next, (most, out)) = second n in
     (omega (arith, whole a.number), (most, rw (out, first b.before) (sets-joined (ascii "// refused ") (decimal a.number ++ ascii "\n") a.output.now 0 11 length-first)))
 

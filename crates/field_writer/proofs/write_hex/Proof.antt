@@ -16,7 +16,7 @@ use Rattle.field_writer.proofs.write_hex.Tie as tie
 -- a part is no longer than asked for
 short : (c : tie.After-part_of-part) → length c.part_of-part.result.now < 2 ^ 32
 short c =
-    let a = c.before.before.before.before.before.before.before.before.args in
+    let a = c.before.before.before.before.before.before.before.before.before.args in
     omega (arith, ap length c.part_of-part.ensures, length-take a.count (drop a.start a.bytes.now))
 
 write-pairs-requires : tie.Need-write_pairs-requires
@@ -30,7 +30,7 @@ returns c =
     let pairs = c.before.before in
     let p = pairs.before.before in
     let first = p.before.before.before in
-    let a = c.before.before.before.before.before.before.before.before.before.before.before.before.args in
+    let a = c.before.before.before.before.before.before.before.before.before.before.before.before.before.args in
     let bytes = part a.bytes.now a.start a.count in (
       omega (arith, ap length p.part_of-part.ensures, length-hex_pairs bytes),
       rw (pairs.write_pairs.ensures, p.part_of-part.ensures, first.write_bytes.ensures) (sets-joined (tab ∷ []) (hex_pairs bytes) a.output.now a.at (a.at + 1) refl),

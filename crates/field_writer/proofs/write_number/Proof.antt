@@ -15,7 +15,7 @@ returns : tie.Need-returns
 returns c =
     let number = c.before.before in
     let first = number.before.before.before.before in
-    let a = c.before.before.before.before.before.before.before.before.before.before.args in (
+    let a = c.before.before.before.before.before.before.before.before.before.before.before.args in (
       omega (arith, number.write_decimal-digits.ensures.0),
       rw (number.write_decimal-digits.ensures.1.1, first.write_bytes.ensures) (sets-joined (tab ∷ []) (decimal a.n) a.output.now a.at (a.at + 1) refl),
     )

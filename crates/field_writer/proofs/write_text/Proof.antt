@@ -15,7 +15,7 @@ use Rattle.field_writer.proofs.write_text.Tie as tie
 write-escaped-requires : tie.Need-write_escaped-requires
 write-escaped-requires c κs =
     let p = c.before in
-    let a = p.before.before.before.before.before.before.before.before.before.args in
+    let a = p.before.before.before.before.before.before.before.before.before.before.args in
     omega (arith, ap length p.part_of-part.ensures, length-take a.text.0 (drop a.start a.bytes.now))
 
 returns : tie.Need-returns
@@ -23,7 +23,7 @@ returns c =
     let e = c.before.before in
     let p = e.before.before in
     let first = p.before.before.before.before in
-    let a = p.before.before.before.before.before.before.before.before.before.args in
+    let a = p.before.before.before.before.before.before.before.before.before.before.args in
     let text = part a.bytes.now a.start a.text.0 in (
       omega (arith, ap (λ l. length (escape l)) p.part_of-part.ensures, e.write_escaped.ensures.0),
       rw (e.write_escaped.ensures.1, p.part_of-part.ensures, first.write_bytes.ensures) (sets-joined (tab ∷ []) (escape text) a.output.now a.at (a.at + 1) refl),

@@ -32,7 +32,7 @@ new-requires : tie.Need-new-sizes-requires invariant-loop decreases-loop
 new-requires c κs = search rules
 
 loop-holds : tie.Need-loop-at-init invariant-loop decreases-loop
-loop-holds c = (1, refl, rw c.new.ensures)
+loop-holds c = (1, refl, rw c.new-sizes.ensures)
 
 line-end-requires : tie.Need-line_end-end-requires invariant-loop decreases-loop
 line-end-requires c κs = search rules
@@ -88,13 +88,13 @@ enum-known-refusal c = search rules
 
 returns-2 : tie.Need-returns-in-Refused invariant-loop decreases-loop
 returns-2 c =
-    let r = c.before.before.before in
+    let r = c.before in
     let e = r.before.before.before in
     let i = e.before.before in
     let s = i.before.before.before.args.sheet.now in
     let (n, number, same) = i.loop-at.invariant in
-    let q = c.before.in-Refused.refusal in
-    let fault = refused s n i.loop-at.sizes i.loop-at.at e.line_end-end.result e.line_end-end.ensures (omega arith) q (told-refused _ q (sym (line-told r) ∙ c.before.in-Refused.is)) in
+    let q = c.in-Refused.refusal in
+    let fault = refused s n i.loop-at.sizes i.loop-at.at e.line_end-end.result e.line_end-end.ensures (omega arith) q (told-refused _ q (sym (line-told r) ∙ c.in-Refused.is)) in
     sym (ap measured fault) ∙ ap measured same ∙ sheet-measured s
 
 enum-known-line : tie.Need-enum_known-line invariant-loop decreases-loop
@@ -107,20 +107,20 @@ next-number-requires : tie.Need-next_number-number-requires invariant-loop decre
 next-number-requires c κs = search rules
 
 add_at : tie.Need-overflow_add-at invariant-loop decreases-loop
-add_at c = omega (arith, (within c.before.before.before.before.before.before.before.before).1)
+add_at c = omega (arith, (within c.before.before.before.before.before.before).1)
 
 loop-less : tie.Need-loop-at-smaller invariant-loop decreases-loop
-loop-less c = let e = c.before.before.before.before.before.before.before.before in omega (arith, (within e).0, e.before.loop-at-test.true)
+loop-less c = let e = c.before.before.before.before.before.before in omega (arith, (within e).0, e.before.loop-at-test.true)
 
 loop-again : tie.Need-loop-at-preserved invariant-loop decreases-loop
 loop-again c =
-    let r = c.before.before.before.before.before in
+    let r = c.before.before.before in
     let e = r.before.before.before in
     let i = e.before.before in
     let s = i.before.before.before.args.sheet.now in
     let (n, number, same) = i.loop-at.invariant in
-    let l = c.before.before.before.in-Line.line in
-    let (rec, good, is) = told_line _ l (sym (line-told r) ∙ c.before.before.before.in-Line.is) in
+    let l = c.before.before.in-Line.line in
+    let (rec, good, is) = told_line _ l (sym (line-told r) ∙ c.before.before.in-Line.is) in
     let step = read s n i.loop-at.sizes i.loop-at.at e.line_end-end.result e.line_end-end.ensures (omega arith) rec good in
     let sizes : c.before.advance-sizes.result ≡ counted i.loop-at.sizes rec = c.before.advance-sizes.ensures ∙ ap (λ (k : LineSizes). advance i.loop-at.sizes k.tag k.first k.second) is in
     (n + 1, omega (arith, c.next_number-number.ensures, number), rw sizes (sym step ∙ same))

@@ -23,7 +23,7 @@ write-refused-requires c κs = search rules
 
 returns : tie.Need-returns-in-Accepted
 unfolding told told_length
-returns c = rw c.before.in-Accepted.is (refl, refl)
+returns c = rw c.in-Accepted.is (refl, refl)
 
 same_length : tie.Need-shape_of-output
 same_length c = search rules
@@ -34,7 +34,7 @@ returns-2 c =
     let w = c.before.before in
     let n = w.before in
     let (size, (most, out)) = w.write_refused.ensures in
-    rw (n.before.before.before.in-Refused.is, ← n.number.ensures) (size, out)
+    rw (n.before.before.in-Refused.is, ← n.number.ensures) (size, out)
 
 pub print_answer_spec : {M : Type 1} → statement M
 print_answer_spec =

@@ -14,10 +14,10 @@ use Rattle.public_copy.proofs.public_copy.Statement.{statement}
 use Rattle.public_copy.proofs.public_copy.Tie as tie
 
 -- the payload is accepted where the first pass finds rows
-whole : (c : tie.In-Rows) → AcceptedPayload c.before.before.before.before.before.args.payload.now
+whole : (c : tie.In-Rows) → AcceptedPayload c.before.before.before.before.args.payload.now
 unfolding accepted
 whole c =
-    let parsed = c.before.before in
+    let parsed = c.before in
     let p = parsed.before.before.before.args.payload.now in (
       λ k. omega (arith, parsed.before.before.shared_slice_known-1.given k),
       ap is_good (rows-counted (parse p) _ (sym parsed.parse_srci.ensures ∙ c.in-Rows.is)).1,
@@ -53,7 +53,7 @@ unfolding copy_answer copy_output
 returns c =
     let w = c.before.before.before in
     let found = w.before.before in
-    let a = found.before.before.before.before.before.args in
+    let a = found.before.before.before.before.args in
     met-short copy-by-walk a.payload.now a.output.now (whole found) w.copy_srci-size.ensures (omega arith)
 
 copy-srci-requires-2 : tie.Need-copy_srci-requires
@@ -63,9 +63,9 @@ copy-srci-requires-2 c κs = (whole c.before.before.before.before.before.before)
 returns-2 : tie.Need-returns-in-Refused
 unfolding copy_answer copy_output
 returns-2 c =
-    let parsed = c.before.before.before in
+    let parsed = c.before in
     let a = parsed.before.before.before.args in
-    met-refused copy-by-walk a.payload.now a.output.now (rows-refused _ _ (sym parsed.parse_srci.ensures ∙ c.before.in-Refused.is))
+    met-refused copy-by-walk a.payload.now a.output.now (rows-refused _ _ (sym parsed.parse_srci.ensures ∙ c.in-Refused.is))
 
 same-length-2 : tie.Need-shape_of-output
 same-length-2 c = search rules
@@ -76,7 +76,7 @@ returns-3 c =
     let second = c.before.before in
     let w = second.before.before.before.before.before in
     let found = w.before.before in
-    let a = found.before.before.before.before.before.args in
+    let a = found.before.before.before.before.args in
     met-stored copy-by-walk a.payload.now a.output.now (whole found) w.copy_srci-size.ensures (omega (arith, second.before.before.if-output-size.false)) second.copy_srci.ensures.1
 
 pub public_copy_spec : {M : Type 1} → statement M

@@ -22,8 +22,8 @@ use Rattle.read.specs.Store.{store_rows}
 use Rattle.read.proofs.read.Tie as tie
 
 -- the rows that were counted
-rows : (n : tie.In-Rows-2) → (let p = n.before.before.before.before.before.args.payload.now in (rs : List Row) × (parse p ≡ good rs) × (length rs ≡ n.in-Rows.count))
-rows n = rows-counted _ _ (sym n.before.before.parse_srci.ensures ∙ n.in-Rows.is)
+rows : (n : tie.In-Rows) → (let p = n.before.before.before.before.args.payload.now in (rs : List Row) × (parse p ≡ good rs) × (length rs ≡ n.in-Rows.count))
+rows n = rows-counted _ _ (sym n.before.parse_srci.ensures ∙ n.in-Rows.is)
 
 parse-srci-requires : tie.Need-parse_srci-requires
 parse-srci-requires c κs = search rules
@@ -39,23 +39,23 @@ cast-if1 c = search rules
 
 returns : tie.Need-returns-then-rows-count
 returns c =
-    let n = c.before.before in
-    let a = n.before.before.before.before.before.args in
+    let n = c.before in
+    let a = n.before.before.before.before.args in
     let (rs, is, count) = rows n in
     let short = too_few a.payload.now a.rows.now is (omega arith) in
     (ap (λ (k : ℕ). Refused (NoRows k)) (sym count) ∙ sym short.0, sym short.1)
 
 fill-srci-requires : tie.Need-fill_srci-requires
 fill-srci-requires c κs =
-    let n = c.before.before.before in
+    let n = c.before.before in
     let (rs, is, count) = rows n in
     ap is_good is
 
 returns-2 : tie.Need-returns-in-Refused
 returns-2 c =
-    let s = c.before.before.before in
+    let s = c.before in
     let a = s.before.before.before.args in
-    let all = refused a.payload.now a.rows.now (rows-refused _ _ (sym s.parse_srci.ensures ∙ c.before.in-Refused.is)) in
+    let all = refused a.payload.now a.rows.now (rows-refused _ _ (sym s.parse_srci.ensures ∙ c.in-Refused.is)) in
     (sym all.0, sym all.1)
 
 same_length : tie.Need-shape_of-rows
@@ -64,8 +64,8 @@ same_length c = search rules
 returns-3 : tie.Need-returns-else-rows-count
 returns-3 c =
     let f = c.before.before in
-    let n = f.before.before.before.before in
-    let a = n.before.before.before.before.before.args in
+    let n = f.before.before.before in
+    let a = n.before.before.before.before.args in
     let (rs, is, count) = rows n in
     let room : length rs ≤ length a.rows.now / width = omega (arith, count) in
     let all = held a.payload.now a.rows.now is room in (

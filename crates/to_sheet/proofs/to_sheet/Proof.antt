@@ -23,10 +23,10 @@ use Rattle.to_sheet.proofs.to_sheet.Statement.{statement}
 use Rattle.to_sheet.proofs.to_sheet.Tie as tie
 
 -- the payload is accepted where the first pass finds rows
-whole : (c : tie.In-Rows) → AcceptedPayload c.before.before.before.before.before.args.payload.now
+whole : (c : tie.In-Rows) → AcceptedPayload c.before.before.before.before.args.payload.now
 unfolding accepted
 whole c =
-    let parsed = c.before.before in
+    let parsed = c.before in
     let p = parsed.before.before.before.args.payload.now in (
       λ k. omega (arith, parsed.before.before.shared_slice_known-1.given k),
       ap is_good (rows-counted (parse p) _ (sym parsed.parse_srci.ensures ∙ c.in-Rows.is)).1,
@@ -57,7 +57,7 @@ slice-aggregate-write-sheet c = search rules
 
 write-sheet-requires : tie.Need-write_sheet-size-requires
 unfolding accepted
-write-sheet-requires c κs = ((whole c.before).1, small c.before.before.before.before.before.before.args.payload.now (whole c.before))
+write-sheet-requires c κs = ((whole c.before).1, small c.before.before.before.before.before.args.payload.now (whole c.before))
 
 cast-if1 : tie.Need-overflow_cast-size
 cast-if1 c = search rules
@@ -70,21 +70,21 @@ unfolding to_sheet_answer to_sheet_output
 returns c =
     let w = c.before.before.before in
     let found = w.before.before in
-    let a = found.before.before.before.before.before.args in
+    let a = found.before.before.before.before.args in
     met-short sheet-by-walk a.payload.now a.output.now (whole found) w.write_sheet-size.ensures (omega arith)
 
 write-sheet-requires-2 : tie.Need-write_sheet-requires
 unfolding accepted
 write-sheet-requires-2 c κs =
     let told = c.before.before.before.before.before.before in
-    ((whole told).1, small told.before.before.before.before.before.args.payload.now (whole told))
+    ((whole told).1, small told.before.before.before.before.args.payload.now (whole told))
 
 returns-2 : tie.Need-returns-in-Refused
 unfolding to_sheet_answer to_sheet_output
 returns-2 c =
-    let parsed = c.before.before.before in
+    let parsed = c.before in
     let a = parsed.before.before.before.args in
-    met-refused sheet-by-walk a.payload.now a.output.now (rows-refused _ _ (sym parsed.parse_srci.ensures ∙ c.before.in-Refused.is))
+    met-refused sheet-by-walk a.payload.now a.output.now (rows-refused _ _ (sym parsed.parse_srci.ensures ∙ c.in-Refused.is))
 
 same-length-2 : tie.Need-shape_of-output
 same-length-2 c = search rules
@@ -95,7 +95,7 @@ returns-3 c =
     let second = c.before.before in
     let w = second.before.before.before.before.before in
     let found = w.before.before in
-    let a = found.before.before.before.before.before.args in
+    let a = found.before.before.before.before.args in
     met-stored sheet-by-walk a.payload.now a.output.now (whole found) w.write_sheet-size.ensures (omega (arith, second.before.before.if-output-size.false)) second.write_sheet.ensures.1
 
 pub to_sheet_spec : {M : Type 1} → statement M

@@ -19,13 +19,13 @@ enum-known-place c = search rules
 
 returns : tie.Need-returns-in-WellFormed
 returns c =
-    let e = sym c.before.before.validate.ensures ∙ c.in-WellFormed.is in
-    (sym (ap number e), sym (ap (λ (u : Utf8). place u c.before.before.before.before.args.at.now) e))
+    let e = sym c.before.validate.ensures ∙ c.in-WellFormed.is in
+    (sym (ap number e), sym (ap (λ (u : Utf8). place u c.before.before.before.args.at.now) e))
 
 returns-2 : tie.Need-returns-in-IllFormed
 returns-2 c =
-    let e = sym c.before.before.before.validate.ensures ∙ c.before.in-IllFormed.is in
-    (sym (ap number e), sym (ap (λ (u : Utf8). place u c.before.before.before.before.before.args.at.now) e))
+    let e = sym c.before.validate.ensures ∙ c.in-IllFormed.is in
+    (sym (ap number e), sym (ap (λ (u : Utf8). place u c.before.before.before.args.at.now) e))
 
 pub utf8_validate_spec : {M : Type 1} → statement M
 utf8_validate_spec = tie.close (tie.spec validate-requires enum_told enum-known-place returns returns-2)

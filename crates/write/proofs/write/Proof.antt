@@ -18,10 +18,10 @@ use Rattle.write.proofs.write.Statement.{statement}
 use Rattle.write.proofs.write.Tie as tie
 
 -- the bytes that were measured
-measured : (n : tie.In-Bytes-2) → (
-    let a = n.before.before.before.before.before.before.before.args in
+measured : (n : tie.In-Bytes) → (
+    let a = n.before.before.before.before.before.before.args in
     (q : List ℕ) × (written_table a.payload.now a.edit.now a.rows.now ≡ good q) × (length q ≡ n.in-Bytes.size))
-measured n = sized-bytes _ _ (sym n.before.before.measure.ensures ∙ n.in-Bytes.is)
+measured n = sized-bytes _ _ (sym n.before.measure.ensures ∙ n.in-Bytes.is)
 
 -- they are the rows', written
 written-rows : (payload edit table q : List ℕ) → written_table payload edit table ≡ good q → written payload edit (rows_of table) ≡ good q
@@ -43,15 +43,15 @@ cast-if1 c = search rules
 returns : tie.Need-returns-then-output-size
 unfolding write_answer write_output
 returns c =
-    let n = c.before.before in
-    let a = n.before.before.before.before.before.before.before.args in
+    let n = c.before in
+    let a = n.before.before.before.before.before.before.args in
     let (q, is, size) = measured n in
     told-no-room (written_table a.payload.now a.edit.now a.rows.now) a.output.now is _ (sym size) (omega arith)
 
 write-srci-requires : tie.Need-write_srci-requires
 write-srci-requires c κs =
-    let n = c.before.before.before in
-    let a = n.before.before.before.before.before.before.before.args in
+    let n = c.before.before in
+    let a = n.before.before.before.before.before.before.args in
     let (q, is, size) = measured n in
     let rows = written-rows a.payload.now a.edit.now a.rows.now q is in
     (ap is_good rows, sym size ∙ ap length (sym (written-good a.payload.now a.edit.now q (rows_of a.rows.now) rows).is))
@@ -59,9 +59,9 @@ write-srci-requires c κs =
 returns-2 : tie.Need-returns-in-Refused
 unfolding write_answer write_output
 returns-2 c =
-    let m = c.before.before.before in
+    let m = c.before in
     let a = m.before.before.before.before.before.args in
-    let told = refused _ a.output.now (sized-refused _ _ (sym m.measure.ensures ∙ c.before.in-Refused.is)) in
+    let told = refused _ a.output.now (sized-refused _ _ (sym m.measure.ensures ∙ c.in-Refused.is)) in
     (sym told.0, sym told.1)
 
 same_length : tie.Need-shape_of-output
@@ -71,8 +71,8 @@ returns-3 : tie.Need-returns-else-output-size
 unfolding write_answer write_output
 returns-3 c =
     let f = c.before.before in
-    let n = f.before.before.before.before in
-    let a = n.before.before.before.before.before.before.before.args in
+    let n = f.before.before.before in
+    let a = n.before.before.before.before.before.before.args in
     let (q, is, size) = measured n in
     let (answered, left) = told-room (written_table a.payload.now a.edit.now a.rows.now) a.output.now is _ (sym size) (omega arith) in
     let rows = written-rows a.payload.now a.edit.now a.rows.now q is in

@@ -42,11 +42,11 @@ summarize-packed-requires c κs = search rules
 
 returns : tie.Need-returns-in-None
 unfolding public_contents_line
-returns c = rw (compression-told c.before.before.before c.before.in-None.is, c.read_u32.ensures)
+returns c = rw (compression-told c.before.before c.before.in-None.is, c.read_u32.ensures)
 
 returns-2 : tie.Need-returns-in-Zlib
 unfolding public_contents_line
-returns-2 c = rw (compression-told c.before.before.before c.before.in-Zlib.is, c.summarize_packed.ensures)
+returns-2 c = rw (compression-told c.before.before c.before.in-Zlib.is, c.summarize_packed.ensures)
 
 pub summarize_contents_spec : {M : Type 1} → statement M
 summarize_contents_spec =

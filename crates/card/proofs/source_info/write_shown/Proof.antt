@@ -27,14 +27,14 @@ returns : tie.Need-returns-in-Known
 unfolding lines
 returns c =
     let w = c.before.before in
-    let s = w.before.before.before in
-    let told = s.before.before in
+    let s = w.before.before in
+    let told = s.before in
     rw (← told.summarize.ensures, s.in-Known.is, append-nil) w.write_line.ensures
 
 returns-2 : tie.Need-returns-in-Unknown
 unfolding lines
 returns-2 c =
-    let told = c.before.before in
+    let told = c.before in
     rw (← told.summarize.ensures, c.in-Unknown.is) (omega arith, (omega arith, refl))
 
 pub write_shown_spec : {M : Type 1} → statement M

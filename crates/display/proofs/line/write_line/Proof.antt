@@ -49,32 +49,32 @@ same_length c = search rules
 -- what is stored for each kind, and that it is the line
 plain : (c : tie.After-write_records) →
     (let a = c.before.before.before.before.before.before.before.before.args in
-    Stored a.at a.output.now c.write_records.result c.write_records.new.output (records_line a.place (ascii "] SourceContents: ") c.before.before.before.before.before.in-Uncompressed.count (ascii " uncompressed file(s)\n")))
+    Stored a.at a.output.now c.write_records.result c.write_records.new.output (records_line a.place (ascii "] SourceContents: ") c.before.before.before.before.before.before.in-Uncompressed.count (ascii " uncompressed file(s)\n")))
 unfolding ascii
 plain c = let e = c.write_records.ensures in (e.0, (omega arith, e.1.1))
 
 packed : (c : tie.After-write_records-next) →
     (let a = c.before.before.before.before.before.before.before.before.args in
-    Stored a.at a.output.now c.write_records-next.result c.write_records-next.new.output (records_line a.place (ascii "] SourceContents: ") c.before.before.before.before.before.in-Zlib.count (ascii " zlib file(s), ")))
+    Stored a.at a.output.now c.write_records-next.result c.write_records-next.new.output (records_line a.place (ascii "] SourceContents: ") c.before.before.before.before.before.before.in-Zlib.count (ascii " zlib file(s), ")))
 unfolding ascii
 packed c = let e = c.write_records-next.ensures in (e.0, (omega arith, e.1.1))
 
 bytes : (c : tie.After-write_number) →
     (let r = c.before.before.before.before.before in
-    let n = r.before.before.before.before.before.in-Zlib.bytes in
-    Stored r.write_records-next.result r.write_records-next.new.output c.write_number.result c.write_number.new.output (decimal n ++ ascii " bytes\n"))
+    let n = r.before.before.before.before.before.before.before.in-Zlib.bytes in
+    Stored r.before.write_records-next.result r.before.write_records-next.new.output c.write_number.result c.write_number.new.output (decimal n ++ ascii " bytes\n"))
 unfolding ascii
 bytes c = let e = c.write_number.ensures in (e.0, (omega arith, e.1.1))
 
 names : (c : tie.After-write_records-in-SourceNames) →
     (let a = c.before.before.before.before.before.before.before.before.args in
-    Stored a.at a.output.now c.write_records-in-SourceNames.result c.write_records-in-SourceNames.new.output (records_line a.place (ascii "] SourceNames: ") c.before.before.before.before.before.in-SourceNames.count (ascii " file(s)\n")))
+    Stored a.at a.output.now c.write_records-in-SourceNames.result c.write_records-in-SourceNames.new.output (records_line a.place (ascii "] SourceNames: ") c.before.before.before.before.before.before.in-SourceNames.count (ascii " file(s)\n")))
 unfolding ascii
 names c = let e = c.write_records-in-SourceNames.ensures in (e.0, (omega arith, e.1.1))
 
 arguments : (c : tie.After-write_records-in-Arguments) →
     (let a = c.before.before.before.before.before.before.before.before.args in
-    Stored a.at a.output.now c.write_records-in-Arguments.result c.write_records-in-Arguments.new.output (records_line a.place (ascii "] Arguments: ") c.before.before.before.before.before.in-Arguments.count (ascii " pair(s)\n")))
+    Stored a.at a.output.now c.write_records-in-Arguments.result c.write_records-in-Arguments.new.output (records_line a.place (ascii "] Arguments: ") c.before.before.before.before.before.before.in-Arguments.count (ascii " pair(s)\n")))
 unfolding ascii
 arguments c = let e = c.write_records-in-Arguments.ensures in (e.0, (omega arith, e.1.1))
 
@@ -83,7 +83,7 @@ returns c =
     let r = c.before.before in
     let t = r.before.before.before.before.before in
     let a = t.before.before.before.args in
-    rw (t.in-Uncompressed.is, ← plain-line a.place t.in-Uncompressed.count) (plain r)
+    rw (t.before.in-Uncompressed.is, ← plain-line a.place t.before.in-Uncompressed.count) (plain r)
 
 same-length-2 : tie.Need-shape_of-output-in-Zlib
 same-length-2 c = search rules
@@ -93,12 +93,12 @@ returns-2 c =
     let n = c.before.before in
     let r = n.before.before.before.before.before in
     let t = r.before.before.before.before.before in
-    let a = t.before.before.before.args in
-    let count = t.in-Zlib.count in
-    let size = t.in-Zlib.bytes in
+    let a = t.before.before.before.before.args in
+    let count = t.before.before.in-Zlib.count in
+    let size = t.before.before.in-Zlib.bytes in
     let records = records_line a.place (ascii "] SourceContents: ") count (ascii " zlib file(s), ") in
-    let both = stored-both records (decimal size ++ ascii " bytes\n") a.at r.write_records-next.result n.write_number.result a.output.now r.write_records-next.new.output (packed r.before) (bytes n) (omega (arith, r.write_records-next.ensures.1.0, n.write_number.ensures.1.0)) in
-    rw (t.in-Zlib.is, ← packed-line a.place count size) both
+    let both = stored-both records (decimal size ++ ascii " bytes\n") a.at r.before.write_records-next.result n.write_number.result a.output.now r.before.write_records-next.new.output (packed r.before) (bytes n) (omega (arith, r.before.write_records-next.ensures.1.0, n.write_number.ensures.1.0)) in
+    rw (t.before.before.in-Zlib.is, ← packed-line a.place count size) both
 
 same-length-3 : tie.Need-shape_of-output-in-SourceNames
 same-length-3 c = search rules
@@ -108,7 +108,7 @@ returns-3 c =
     let r = c.before.before in
     let t = r.before.before.before.before.before in
     let a = t.before.before.before.args in
-    rw (t.in-SourceNames.is, ← names-line a.place t.in-SourceNames.count) (names r)
+    rw (t.before.in-SourceNames.is, ← names-line a.place t.before.in-SourceNames.count) (names r)
 
 same-length-4 : tie.Need-shape_of-output-in-Arguments
 same-length-4 c = search rules
@@ -118,7 +118,7 @@ returns-4 c =
     let r = c.before.before in
     let t = r.before.before.before.before.before in
     let a = t.before.before.before.args in
-    rw (t.in-Arguments.is, ← arguments-line a.place t.in-Arguments.count) (arguments r)
+    rw (t.before.in-Arguments.is, ← arguments-line a.place t.before.in-Arguments.count) (arguments r)
 
 same-length-5 : tie.Need-shape_of-output-in-Unknown
 same-length-5 c = search rules

@@ -26,7 +26,7 @@ same_length : tie.Need-shape_of-output
 same_length c = search rules
 
 -- what is stored first
-started : (c : tie.After-write_bytes) → (let a = c.before.before.before.before.before.before.args in c.write_bytes.new.output ≡ sets a.output.now a.at (ascii "//   ["))
+started : (c : tie.After-write_bytes) → (let a = c.before.before.before.before.before.before.before.args in c.write_bytes.new.output ≡ sets a.output.now a.at (ascii "//   ["))
 unfolding ascii
 started c = c.write_bytes.ensures
 
@@ -36,13 +36,13 @@ returns c =
     let first = second.before.before.before.before in
     let start = first.before.before.before.before in
     let entry = start.before.before.before.before.before.before in
-    let a = entry.args in
+    let a = entry.before.args in
     let name = a.name.now in
     let text = a.text.now in
     let sum = records-length a.place a.count name text in (
       omega (arith, sum, length-append (decimal a.place) name, length-append (decimal a.count) text),
       (
-        omega (arith, entry.requires.1, first.write_number-next.ensures.1.0, second.write_number.ensures.1.0),
+        omega (arith, entry.before.requires.1, first.write_number-next.ensures.1.0, second.write_number.ensures.1.0),
         rw (second.write_number.ensures.1.1, first.write_number-next.ensures.1.1, started start)
             (records-stored a.place a.count name text a.output.now a.at _ _ (omega arith) first.write_number-next.ensures.0),
       ),

@@ -43,13 +43,13 @@ returns c =
     let kind = close.before.before.before.before.before in
     let place = kind.before.before.before.before in
     let start = place.before.before.before.before.before in
-    let a = start.before.before.before.before.args in
+    let a = start.before.before.before.before.before.before.before.before.args in
     let sum = unknown-length a.place a.kind a.bytes in (
       omega (arith, sum, length-append (decimal a.place) (ascii "] Unknown(0x"), length-append (decimal a.bytes) (ascii " bytes\n")),
       (
         omega arith,
-        rw (bytes.write_number.ensures.1.1, close.write_bytes-2.ensures, kind.write_hex.ensures, place.write_number-next.ensures.1.1, start.write_bytes.ensures)
-            (unknown-stored a.place a.kind a.bytes a.output.now a.at _ _ _ _ (omega arith) place.write_number-next.ensures.0 (omega arith) (omega arith)),
+        rw (bytes.write_number.ensures.1.1, close.before.write_bytes-2.ensures, kind.before.before.write_hex.ensures, place.before.before.write_number-next.ensures.1.1, start.before.before.before.write_bytes.ensures)
+            (unknown-stored a.place a.kind a.bytes a.output.now a.at _ _ _ _ (omega arith) place.before.before.write_number-next.ensures.0 (omega arith) (omega arith)),
       ),
     )
 

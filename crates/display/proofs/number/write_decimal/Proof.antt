@@ -16,7 +16,7 @@ use Rattle.display.proofs.number.write_decimal.Tie as tie
 -- how many digits there are
 size : (c : tie.After-decimal-count) → (let a = c.before.before.before.args in c.decimal-count.result ≡ length (decimal a.n))
 size c =
-    let (counts, (fewest, spelt)) = c.decimal-count.ensures in
+    let (counts, (fewest, (spelt, kept))) = c.decimal-count.ensures in
     counts.1 ∙ ap length (spelt ∙ digits_decimal _ _ fewest)
 
 decimal-requires : tie.Need-decimal-count-requires
@@ -38,7 +38,7 @@ returns : tie.Need-returns
 returns c =
     let d = c.before.before.before.before.before in
     let a = d.before.before.before.args in
-    let (counts, (fewest, spelt)) = d.decimal-count.ensures in
+    let (counts, (fewest, (spelt, kept))) = d.decimal-count.ensures in
     let text = spelt ∙ digits_decimal _ _ fewest in
     (size d, (omega (arith, size d, decimal-short 9 a.n (omega arith)), c.before.before.write_bytes.ensures ∙ ap (λ (l : List ℕ). sets a.output.now a.at l) text))
 

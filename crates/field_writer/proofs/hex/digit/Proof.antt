@@ -13,7 +13,7 @@ returns-2 : tie.Need-returns-else-n-lt10
 returns-2 c = let a = c.before.args in rw (le-ltb a.n 10 (omega arith))
 
 pub digit_spec : {M : Type 1} → statement M
-digit_spec = tie.close (tie.spec 
+digit_spec = tie.close (tie.spec
     (λ c. search rules)
     (λ c. search rules)
     returns

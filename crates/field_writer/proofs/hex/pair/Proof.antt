@@ -26,7 +26,7 @@ returns c =
     rw (c.before.digit.ensures, c.digit-2.ensures) (two_bytes _ _ (omega arith) (omega arith))
 
 pub pair_spec : {M : Type 1} → statement M
-pair_spec = tie.close (tie.spec 
+pair_spec = tie.close (tie.spec
     (λ c κs. search rules)
     (λ c κs. search rules)
     mul-result

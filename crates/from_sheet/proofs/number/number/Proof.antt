@@ -23,13 +23,13 @@ enum_told c = search rules
 
 returns : tie.Need-returns-in-Number
 returns c =
-    let read = c.before.before.before in
-    let is = (number_is _ _ (sym read.read_number.ensures ∙ c.before.in-Number.is)).1 in
+    let read = c.before in
+    let is = (number_is _ _ (sym read.read_number.ensures ∙ c.in-Number.is)).1 in
     sym is ∙ ap number_of read.before.field.ensures
 
 returns-2 : tie.Need-returns-in-Malformed
 returns-2 c =
-    let read = c.before.before in
+    let read = c.before in
     let field = read.before in
     let not = number-not _ (sym read.read_number.ensures ∙ c.in-Malformed.is) in
     let is = ap is_number field.field.ensures ∙ field.before.before.requires in

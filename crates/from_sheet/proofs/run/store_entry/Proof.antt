@@ -37,30 +37,30 @@ module _ (t : Tag) (fs : List (List ℕ)) where
 
 content-is :
     (c : tie.After-field) →
-    (let a = c.before.before.before.before.before.before.args in
+    (let a = c.before.before.before.before.before.args in
     entry_bytes a.tag (said_by a.tag (fields_of a.line.now)) ≡ content_entry (unescape c.field.result.now))
 content-is c =
     let told = c.before.before in
-    let a = told.before.before.before.before.args in
+    let a = told.before.before.before.args in
     content-bytes a.tag (fields_of a.line.now) told.in-Content.is ∙ ap (λ (f : List ℕ). content_entry (unescape f)) (sym c.field.ensures)
 
 name-is :
     (c : tie.After-number) →
-    (let a = c.before.before.before.before.before.before.before.args in
+    (let a = c.before.before.before.before.before.before.args in
     entry_bytes a.tag (said_by a.tag (fields_of a.line.now)) ≡ name_entry (name (unescape c.before.field-in-Name.result.now) c.number.result))
 name-is c =
     let told = c.before.before.before in
-    let a = told.before.before.before.before.args in
+    let a = told.before.before.before.args in
     name-bytes a.tag (fields_of a.line.now) told.in-Name.is ∙
     ap₂ (λ (f : List ℕ) (n : ℕ). name_entry (name (unescape f) n)) (sym c.before.field-in-Name.ensures) (sym c.number.ensures)
 
 pair_is :
     (c : tie.After-field-in-Pair-2) →
-    (let a = c.before.before.before.before.before.before.before.args in
+    (let a = c.before.before.before.before.before.before.args in
     entry_bytes a.tag (said_by a.tag (fields_of a.line.now)) ≡ pair_entry (pair (unescape c.before.field-in-Pair.result.now) (unescape c.field-in-Pair-2.result.now)))
 pair_is c =
     let told = c.before.before.before in
-    let a = told.before.before.before.before.args in
+    let a = told.before.before.before.args in
     pair-bytes a.tag (fields_of a.line.now) told.in-Pair.is ∙
     ap₂ (λ (f g : List ℕ). pair_entry (pair (unescape f) (unescape g))) (sym c.before.field-in-Pair.ensures) (sym c.field-in-Pair-2.ensures)
 
@@ -72,7 +72,7 @@ field-requires c κs = search rules
 
 store-content-requires : tie.Need-store_content-requires
 store-content-requires c κs =
-    let start = c.before.before.before.before.before.before in
+    let start = c.before.before.before.before.before in
     let size = ap length (content-is c) in
     (omega (arith, size, start.requires.1.0), omega (arith, size, start.requires.1.1))
 
@@ -85,13 +85,13 @@ field-requires-2 c κs = search rules
 number-requires : tie.Need-number-requires
 number-requires c κs =
     let told = c.before.before in
-    let start = told.before.before.before.before in
+    let start = told.before.before.before in
     let fs = fields_of start.args.line.now in
     number-made tag.Name fs (ap (λ (t : Tag). is_made t fs) (sym told.in-Name.is) ∙ start.requires.0) 0 (omega arith)
 
 store-name-requires : tie.Need-store_name-requires
 store-name-requires c κs =
-    let start = c.before.before.before.before.before.before.before in
+    let start = c.before.before.before.before.before.before in
     let size = ap length (name-is c) in
     (omega (arith, size, start.requires.1.0), omega (arith, size, start.requires.1.1))
 
@@ -106,7 +106,7 @@ field-requires-4 c κs = search rules
 
 store-pair-requires : tie.Need-store_pair-requires
 store-pair-requires c κs =
-    let start = c.before.before.before.before.before.before.before in
+    let start = c.before.before.before.before.before.before in
     let size = ap length (pair_is c) in
     (omega (arith, size, start.requires.1.0), omega (arith, size, start.requires.1.1))
 

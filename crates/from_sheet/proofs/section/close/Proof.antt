@@ -36,13 +36,13 @@ cast-bytes : tie.Need-overflow_cast-bytes
 cast-bytes c = search rules
 
 add-bytes : tie.Need-overflow_add-bytes
-add-bytes c = let fits = rw c.in-PlainContents.is at c.before.before.before.before.requires.1.1.1 in omega (arith, fits)
+add-bytes c = let fits = rw c.in-PlainContents.is at c.before.before.before.requires.1.1.1 in omega (arith, fits)
 
 sub-bytes : tie.Need-overflow_sub-bytes
-sub-bytes c = let fits = rw c.in-PlainContents.is at c.before.before.before.before.requires.1.1.1 in omega (arith, fits)
+sub-bytes c = let fits = rw c.in-PlainContents.is at c.before.before.before.requires.1.1.1 in omega (arith, fits)
 
 number-requires : tie.Need-number-field-requires
-number-requires c κs = made c.before.before.before.before tag.PlainContents c.in-PlainContents.is 0 (omega arith)
+number-requires c κs = made c.before.before.before tag.PlainContents c.in-PlainContents.is 0 (omega arith)
 
 close-contents-requires : tie.Need-close_contents-requires
 close-contents-requires c κs = search rules
@@ -51,13 +51,13 @@ enum-told-2 : tie.Need-enum_told-in-PackedContents
 enum-told-2 c = search rules
 
 number-requires-2 : tie.Need-number-requires
-number-requires-2 c κs = made c.before.before.before.before.before tag.PackedContents c.before.in-PackedContents.is 0 (omega arith)
+number-requires-2 c κs = made c.before.before.before.before tag.PackedContents c.before.in-PackedContents.is 0 (omega arith)
 
 number-requires-3 : tie.Need-number-requires-in-PackedContents
-number-requires-3 c κs = made c.before.before.before.before.before.before tag.PackedContents c.before.before.in-PackedContents.is 2 (omega arith)
+number-requires-3 c κs = made c.before.before.before.before.before tag.PackedContents c.before.before.in-PackedContents.is 2 (omega arith)
 
 number-requires-4 : tie.Need-number-requires-in-PackedContents-2
-number-requires-4 c κs = made c.before.before.before.before.before.before.before tag.PackedContents c.before.before.before.in-PackedContents.is 1 (omega arith)
+number-requires-4 c κs = made c.before.before.before.before.before.before tag.PackedContents c.before.before.before.in-PackedContents.is 1 (omega arith)
 
 close-contents-requires-2 : tie.Need-close_contents-requires-in-PackedContents
 close-contents-requires-2 c κs = search rules
@@ -78,11 +78,11 @@ enum-told-5 : tie.Need-enum_told-in-Unknown
 enum-told-5 c = search rules
 
 number-requires-5 : tie.Need-number-requires-in-Unknown
-number-requires-5 c κs = made c.before.before.before.before tag.Unknown c.in-Unknown.is 0 (omega arith)
+number-requires-5 c κs = made c.before.before.before tag.Unknown c.in-Unknown.is 0 (omega arith)
 
 cast-t27 : tie.Need-overflow_cast-kind
 cast-t27 c =
-    let s = c.before.before.before.before.before in
+    let s = c.before.before.before.before in
     let fs = fields_of s.args.line.now in
     let ruled = rw c.before.in-Unknown.is at s.requires.1.0 in
     omega (arith, c.number-in-Unknown.ensures, (unknown-said fs).0, kind_fits fs ruled)
@@ -110,7 +110,7 @@ returns c =
     let closed = c.before.before in
     let n = closed.before.before in
     let told = n.before in
-    let s = told.before.before.before.before in
+    let s = told.before.before.before in
     let a = s.args in
     rw told.in-PlainContents.is (
       closed.close_contents.ensures.0,
@@ -126,7 +126,7 @@ returns-2 c =
     let closed = c.before.before in
     let n = closed.before in
     let told = n.before.before.before.before in
-    let s = told.before.before.before.before in
+    let s = told.before.before.before in
     let a = s.args in
     rw told.in-PackedContents.is (
       closed.close_contents-in-PackedContents.ensures.0,
@@ -141,7 +141,7 @@ returns-3 : tie.Need-returns-in-Names
 returns-3 c =
     let closed = c.before.before in
     let told = closed.before.before in
-    let s = told.before.before.before.before in
+    let s = told.before.before.before in
     let a = s.args in
     rw told.in-Names.is (
       closed.close_names.ensures.0,
@@ -156,7 +156,7 @@ returns-4 : tie.Need-returns-in-Arguments
 returns-4 c =
     let closed = c.before.before in
     let told = closed.before.before in
-    let s = told.before.before.before.before in
+    let s = told.before.before.before in
     let a = s.args in
     rw told.in-Arguments.is (
       closed.close_arguments.ensures.0,
@@ -172,7 +172,7 @@ returns-5 c =
     let closed = c.before.before in
     let n = closed.before.before in
     let told = n.before in
-    let s = told.before.before.before.before in
+    let s = told.before.before.before in
     let a = s.args in
     rw told.in-Unknown.is (
       closed.close_section.ensures.0,
@@ -181,16 +181,16 @@ returns-5 c =
     )
 
 returns-6 : tie.Need-returns-in-Content
-returns-6 c = absurd (no-section (begins c.before.before.before.before tag.Content c.in-Content.is))
+returns-6 c = absurd (no-section (begins c.before.before.before tag.Content c.in-Content.is))
 
 returns-7 : tie.Need-returns-in-Name
-returns-7 c = absurd (no-section (begins c.before.before.before.before tag.Name c.in-Name.is))
+returns-7 c = absurd (no-section (begins c.before.before.before tag.Name c.in-Name.is))
 
 returns-8 : tie.Need-returns-in-Pair
-returns-8 c = absurd (no-section (begins c.before.before.before.before tag.Pair c.in-Pair.is))
+returns-8 c = absurd (no-section (begins c.before.before.before tag.Pair c.in-Pair.is))
 
 returns-9 : tie.Need-returns-in-None
-returns-9 c = absurd (no-section (begins c.before.before.before.before tag.None c.in-None.is))
+returns-9 c = absurd (no-section (begins c.before.before.before tag.None c.in-None.is))
 
 pub close_spec : {M : Type 1} → statement M
 close_spec =

@@ -41,7 +41,7 @@ returns-2 c =
     c.part_after-then-index-eq1.ensures ∙ ap (λ (e : Ends). part_after line e.first e.second) s.requires ∙ sym (field-one line) ∙ ap (λ (k : ℕ). get_or (split tab line).rest k []) is
 
 pub field_by_spec : {M : Type 1} → statement M
-field_by_spec = tie.close (tie.spec 
+field_by_spec = tie.close (tie.spec
     part-after-requires
     returns
     part-after-requires-2

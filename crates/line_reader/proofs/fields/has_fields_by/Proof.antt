@@ -36,7 +36,7 @@ returns-3 c =
     ap (λ (e : Ends). ltb e.first (length line) && eqb e.second (length line)) s.requires ∙ sym (count-two line) ∙ ap (eqb (length (split tab line).rest)) two
 
 pub has_fields_by_spec : {M : Type 1} → statement M
-has_fields_by_spec = tie.close (tie.spec 
+has_fields_by_spec = tie.close (tie.spec
     returns
     returns-2
     returns-3

@@ -19,7 +19,7 @@ returns-2 c =
     (c.before.before.requires, sym (none_after a.line.now a.end (omega arith)))
 
 pub next_end_spec : {M : Type 1} → statement M
-next_end_spec = tie.close (tie.spec 
+next_end_spec = tie.close (tie.spec
     (λ c. search rules)
     (λ c κs. search rules)
     returns

@@ -32,7 +32,6 @@ pub part_after_spec : {M : Type 1} → statement M
 part_after_spec =
     tie.close
     (tie.spec
-
     (λ c. search rules)
     (λ c. (within c).0)
     (λ c. (within c).0)

@@ -46,55 +46,55 @@ returns-2 c = sym (past-1 c.before.before.before.before ∙ word-is tag.PackedCo
 
 past-2 : (c : tie.Else-are_same-2) → Past 2 c.before.before.before.before.before.before.before.before
 unfolding ascii
-past-2 c = past-1 c.before.before.before ∙ word-not tag.PackedContents _ _ (sym c.before.are_same-2.ensures ∙ c.if-are_same-2.false)
+past-2 c = past-1 c.before.before.before.before ∙ word-not tag.PackedContents _ _ (sym c.before.are_same-2.ensures ∙ c.if-are_same-2.false)
 
-returns-3.before.before : tie.Need-returns-then-are_same-3
+returns-3 : tie.Need-returns-then-are_same-3
 unfolding ascii
-returns-3 c = sym (past-2 c.before.before.before ∙ word-is tag.Names _ _ (sym c.before.are_same-3.ensures ∙ c.if-are_same-3.true))
+returns-3 c = sym (past-2 c.before.before.before.before ∙ word-is tag.Names _ _ (sym c.before.are_same-3.ensures ∙ c.if-are_same-3.true))
 
 past-3 : (c : tie.Else-are_same-3) → Past 3 c.before.before.before.before.before.before.before.before.before.before.before.before
 unfolding ascii
-past-3 c = past-2 c.before.before.before ∙ word-not tag.Names _ _ (sym c.before.are_same-3.ensures ∙ c.if-are_same-3.false)
+past-3 c = past-2 c.before.before.before.before ∙ word-not tag.Names _ _ (sym c.before.are_same-3.ensures ∙ c.if-are_same-3.false)
 
-returns-4.before.before.before : tie.Need-returns-then-are_same-4
+returns-4 : tie.Need-returns-then-are_same-4
 unfolding ascii
-returns-4 c = sym (past-3 c.before.before.before ∙ word-is tag.Arguments _ _ (sym c.before.are_same-4.ensures ∙ c.if-are_same-4.true))
+returns-4 c = sym (past-3 c.before.before.before.before ∙ word-is tag.Arguments _ _ (sym c.before.are_same-4.ensures ∙ c.if-are_same-4.true))
 
 past-4 : (c : tie.Else-are_same-4) → Past 4 c.before.before.before.before.before.before.before.before.before.before.before.before.before.before.before.before
 unfolding ascii
-past-4 c = past-3 c.before.before.before ∙ word-not tag.Arguments _ _ (sym c.before.are_same-4.ensures ∙ c.if-are_same-4.false)
+past-4 c = past-3 c.before.before.before.before ∙ word-not tag.Arguments _ _ (sym c.before.are_same-4.ensures ∙ c.if-are_same-4.false)
 
-returns-5.before.before.before.before : tie.Need-returns-then-are_same-5
+returns-5 : tie.Need-returns-then-are_same-5
 unfolding ascii
-returns-5 c = sym (past-4 c.before.before.before ∙ word-is tag.Unknown _ _ (sym c.before.are_same-5.ensures ∙ c.if-are_same-5.true))
+returns-5 c = sym (past-4 c.before.before.before.before ∙ word-is tag.Unknown _ _ (sym c.before.are_same-5.ensures ∙ c.if-are_same-5.true))
 
 past-5 : (c : tie.Else-are_same-5) → Past 5 c.before.before.before.before.before.before.before.before.before.before.before.before.before.before.before.before.before.before.before.before
 unfolding ascii
-past-5 c = past-4 c.before.before.before ∙ word-not tag.Unknown _ _ (sym c.before.are_same-5.ensures ∙ c.if-are_same-5.false)
+past-5 c = past-4 c.before.before.before.before ∙ word-not tag.Unknown _ _ (sym c.before.are_same-5.ensures ∙ c.if-are_same-5.false)
 
-returns-6.before.before.before.before.before : tie.Need-returns-then-are_same-6
+returns-6 : tie.Need-returns-then-are_same-6
 unfolding ascii
-returns-6 c = sym (past-5 c.before.before.before ∙ word-is tag.Content _ _ (sym c.before.are_same-6.ensures ∙ c.if-are_same-6.true))
+returns-6 c = sym (past-5 c.before.before.before.before ∙ word-is tag.Content _ _ (sym c.before.are_same-6.ensures ∙ c.if-are_same-6.true))
 
 past-6 : (c : tie.Else-are_same-6) → Past 6 c.before.before.before.before.before.before.before.before.before.before.before.before.before.before.before.before.before.before.before.before.before.before.before.before
 unfolding ascii
-past-6 c = past-5 c.before.before.before ∙ word-not tag.Content _ _ (sym c.before.are_same-6.ensures ∙ c.if-are_same-6.false)
+past-6 c = past-5 c.before.before.before.before ∙ word-not tag.Content _ _ (sym c.before.are_same-6.ensures ∙ c.if-are_same-6.false)
 
-returns-7.before.before.before.before.before.before : tie.Need-returns-then-are_same-7
+returns-7 : tie.Need-returns-then-are_same-7
 unfolding ascii
-returns-7 c = sym (past-6 c.before.before.before ∙ word-is tag.Name _ _ (sym c.before.are_same-7.ensures ∙ c.if-are_same-7.true))
+returns-7 c = sym (past-6 c.before.before.before.before ∙ word-is tag.Name _ _ (sym c.before.are_same-7.ensures ∙ c.if-are_same-7.true))
 
 past-7 : (c : tie.Else-are_same-7) → Past 7 c.before.before.before.before.before.before.before.before.before.before.before.before.before.before.before.before.before.before.before.before.before.before.before.before.before.before.before.before
 unfolding ascii
-past-7 c = past-6 c.before.before.before ∙ word-not tag.Name _ _ (sym c.before.are_same-7.ensures ∙ c.if-are_same-7.false)
+past-7 c = past-6 c.before.before.before.before ∙ word-not tag.Name _ _ (sym c.before.are_same-7.ensures ∙ c.if-are_same-7.false)
 
-returns-8.before.before.before.before.before.before.before : tie.Need-returns-then-are_same-8
+returns-8 : tie.Need-returns-then-are_same-8
 unfolding ascii
-returns-8 c = sym (past-7 c.before.before.before ∙ word-is tag.Pair _ _ (sym c.before.are_same-8.ensures ∙ c.if-are_same-8.true))
+returns-8 c = sym (past-7 c.before.before.before.before ∙ word-is tag.Pair _ _ (sym c.before.are_same-8.ensures ∙ c.if-are_same-8.true))
 
 past-8 : (c : tie.Else-are_same-8) → Past 8 c.before.before.before.before.before.before.before.before.before.before.before.before.before.before.before.before.before.before.before.before.before.before.before.before.before.before.before.before.before.before.before.before
 unfolding ascii
-past-8 c = past-7 c.before.before.before ∙ word-not tag.Pair _ _ (sym c.before.are_same-8.ensures ∙ c.if-are_same-8.false)
+past-8 c = past-7 c.before.before.before.before ∙ word-not tag.Pair _ _ (sym c.before.are_same-8.ensures ∙ c.if-are_same-8.false)
 
 returns-9 : tie.Need-returns
 unfolding tag_among
@@ -105,28 +105,20 @@ tag_by_spec =
     tie.close
     (tie.spec
     slice-aggregate-word
-    (λ c. search rules)
     (λ c κs. search rules)
     returns
-    (λ c. search rules)
     (λ c κs. search rules)
     returns-2
-    (λ c. search rules)
     (λ c κs. search rules)
     returns-3
-    (λ c. search rules)
     (λ c κs. search rules)
     returns-4
-    (λ c. search rules)
     (λ c κs. search rules)
     returns-5
-    (λ c. search rules)
     (λ c κs. search rules)
     returns-6
-    (λ c. search rules)
     (λ c κs. search rules)
     returns-7
-    (λ c. search rules)
     (λ c κs. search rules)
     returns-8
     returns-9)

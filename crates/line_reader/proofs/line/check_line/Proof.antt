@@ -42,21 +42,20 @@ told c =
     rw (← c.before.before.before.before.before.before.tag_by-tag.ensures, c.measure.ensures) (line-joined _ _ _ _ placed many)
 
 returns-3 : tie.Need-returns-in-Refused
-returns-3 c = sym (told c.before ∙ ap₂ joined c.before.in-Refused.is refl)
+returns-3 c = sym (told c.before ∙ ap₂ joined c.in-Refused.is refl)
 
 returns-4 : tie.Need-returns-in-Refused-check_texts
 returns-4 c =
-    sym (told c.before.before.before ∙ ap₂ joined c.before.before.before.before.before.in-Line.is (sym c.before.before.before.check_texts.ensures ∙ c.before.in-Refused-check_texts.is))
+    sym (told c.before.before.before ∙ ap₂ joined c.before.before.in-Line.is (sym c.before.check_texts.ensures ∙ c.in-Refused-check_texts.is))
 
 returns-5 : tie.Need-returns-in-Passed
 returns-5 c =
-    sym (told c.before.before.before ∙ ap₂ joined c.before.before.before.before.in-Line.is (sym c.before.before.check_texts.ensures ∙ c.in-Passed.is))
+    sym (told c.before.before.before ∙ ap₂ joined c.before.before.in-Line.is (sym c.before.check_texts.ensures ∙ c.in-Passed.is))
 
 pub check_line_spec : {M : Type 1} → statement M
 check_line_spec =
     tie.close
     (tie.spec
-
     (λ c κs. search rules)
     tag-by-requires
     (λ c κs. search rules)

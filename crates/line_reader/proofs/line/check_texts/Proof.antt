@@ -28,14 +28,14 @@ returns-2 c = rw c.before.before.in-Name.is (of_field c.check_whole-in-Name.ensu
 returns-3 : tie.Need-returns-in-Refused
 unfolding text_fields check_all
 returns-3 c =
-    let first = c.before.before.before in
+    let first = c.before in
     let told = of_field first.check_whole-in-Pair.ensures first.before.field_by-in-Pair.ensures in
-    rw first.before.before.in-Pair.is (sym (ap verdict (after-fault _ _ (not-passed _ _ (sym told ∙ c.before.in-Refused.is)))))
+    rw first.before.before.in-Pair.is (sym (ap verdict (after-fault _ _ (not-passed _ _ (sym told ∙ c.in-Refused.is)))))
 
 returns-4 : tie.Need-returns-in-Passed
 unfolding text_fields check_all
 returns-4 c =
-    let first = c.before.before.before.before in
+    let first = c.before.before.before in
     let told = of_field first.check_whole-in-Pair.ensures first.before.field_by-in-Pair.ensures in
     rw first.before.before.in-Pair.is
     (of_field c.check_whole-in-Passed.ensures c.before.field_by-in-Passed.ensures ∙
@@ -70,7 +70,6 @@ pub check_texts_spec : {M : Type 1} → statement M
 check_texts_spec =
     tie.close
     (tie.spec
-
     (λ c. search rules)
     (λ c κs. search rules)
     (λ c κs. search rules)

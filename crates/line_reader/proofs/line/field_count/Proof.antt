@@ -35,7 +35,6 @@ pub field_count_spec : {M : Type 1} → statement M
 field_count_spec =
     tie.close
     (tie.spec
-
     (λ c. search rules)
     (λ c. search rules)
     (λ c. search rules)

@@ -20,7 +20,6 @@ pub is_between_spec : {M : Type 1} → statement M
 is_between_spec =
     tie.close
     (tie.spec
-
     (λ c κs. search rules)
     (λ c. search rules)
     (λ c. search rules)

@@ -11,7 +11,6 @@ pub is_placed_spec : {M : Type 1} → statement M
 is_placed_spec =
     tie.close
     (tie.spec
-
     (λ c κs. search rules)
     (λ c κs. search rules)
     (λ c κs. search rules)

@@ -20,7 +20,6 @@ pub sized_spec : {M : Type 1} → statement M
 sized_spec =
     tie.close
     (tie.spec
-
     returns
     (λ c. search rules)
     (λ c. search rules)

@@ -60,21 +60,21 @@ body-size-requires c κs = search rules
 
 returns : tie.Need-returns-in-SourceContents
 unfolding section_line
-returns c = rw (kind-told c.before.before.before c.before.in-SourceContents.is) c.summarize_contents.ensures
+returns c = rw (kind-told c.before.before c.before.in-SourceContents.is) c.summarize_contents.ensures
 
 returns-2 : tie.Need-returns-in-SourceNames
 unfolding section_line
-returns-2 c = rw (kind-told c.before.before.before c.before.in-SourceNames.is, c.read_u32.ensures)
+returns-2 c = rw (kind-told c.before.before c.before.in-SourceNames.is, c.read_u32.ensures)
 
 returns-3 : tie.Need-returns-in-Arguments
 unfolding section_line
-returns-3 c = rw (kind-told c.before.before.before c.before.in-Arguments.is, c.read_u32-in-Arguments.ensures)
+returns-3 c = rw (kind-told c.before.before c.before.in-Arguments.is, c.read_u32-in-Arguments.ensures)
 
 returns-4 : tie.Need-returns-in-Unknown
 unfolding section_line
 returns-4 c =
-    let k = c.before.before.before in
-    rw (kind-told k.before.before k.in-Unknown.is, c.body_size.ensures, c.before.read_u32-in-Unknown.ensures)
+    let k = c.before.before in
+    rw (kind-told k.before k.in-Unknown.is, c.body_size.ensures, c.before.read_u32-in-Unknown.ensures)
 
 pub summarize_spec : {M : Type 1} → statement M
 summarize_spec =

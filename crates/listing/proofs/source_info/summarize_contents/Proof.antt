@@ -45,11 +45,11 @@ read-u32-requires-2 c κs = search rules
 
 returns : tie.Need-returns-in-None
 unfolding contents_line
-returns c = rw (compression-told c.before.before c.in-None.is, c.before.before.before.before.read_u32-count.ensures)
+returns c = rw (compression-told c.before c.in-None.is, c.before.before.before.read_u32-count.ensures)
 
 returns-2 : tie.Need-returns-in-Zlib
 unfolding contents_line
-returns-2 c = rw (compression-told c.before.before.before c.before.in-Zlib.is, c.read_u32.ensures, c.before.before.before.before.before.read_u32-count.ensures)
+returns-2 c = rw (compression-told c.before.before c.before.in-Zlib.is, c.read_u32.ensures, c.before.before.before.before.read_u32-count.ensures)
 
 pub summarize_contents_spec : {M : Type 1} → statement M
 summarize_contents_spec =

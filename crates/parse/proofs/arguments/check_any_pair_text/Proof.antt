@@ -91,14 +91,14 @@ shown c =
 
 returns-2 : tie.Need-returns-in-WellFormed
 returns-2 c =
-    let v = c.before.before in
+    let v = c.before in
     let formed = well-formed _ (sym (shown v) ∙ c.in-WellFormed.is) in
     ap (λ (n : ℕ). Text (record { 0 = n })) v.before.before.before.find_nul-count.ensures ∙
     sym (ap maybe_text (text-well-formed _ _ _ (closed v.before.before) formed))
 
 returns-3 : tie.Need-returns-in-IllFormed
 returns-3 c =
-    let v = c.before.before in
+    let v = c.before in
     let ill = not-well-formed _ _ (sym (shown v) ∙ c.in-IllFormed.is) in
     sym (ap maybe_text (text-ill-formed _ _ _ (closed v.before.before) ill))
 

@@ -24,10 +24,10 @@ enum-known-name : tie.Need-enum_known-name
 enum-known-name c = search rules
 
 name-found :
-    (c : tie.In-Text-2) →
-    (let a = c.before.before.before.before.args in
+    (c : tie.In-Text) →
+    (let a = c.before.before.before.args in
     pair_text a.payload.now a.at a.end ≡ good c.in-Text.name.0)
-name-found c = text-found _ _ (sym c.before.before.check_pair_text.ensures ∙ c.in-Text.is)
+name-found c = text-found _ _ (sym c.before.check_pair_text.ensures ∙ c.in-Text.is)
 
 wire-size-requires : tie.Need-wire_size-requires
 wire-size-requires c κs = search rules
@@ -37,17 +37,17 @@ add_start c = search rules
 
 check-pair-text-requires-2 : tie.Need-check_pair_text-requires-in-Text
 check-pair-text-requires-2 c κs =
-    let found = pair_text-good _ _ _ _ (name-found c.before.before.before) in
+    let found = pair_text-good _ _ _ _ (name-found c.before.before) in
     omega (arith, found.0, c.before.wire_size.ensures)
 
 -- the value is looked for where the name's NUL ends
 value_there :
     (c : tie.After-check_pair_text-in-Text) →
-    (let n = c.before.before.before.before in
-    let a = n.before.before.args in
+    (let n = c.before.before.before in
+    let a = n.before.before.before.args in
     c.check_pair_text-in-Text.result ≡ maybe_text (pair_text a.payload.now (a.at + wire_size n.in-Text.name.0) a.end))
 value_there c =
-    let a = c.before.before.before.before.before.before.before.before.args in
+    let a = c.before.before.before.before.before.before.args in
     c.check_pair_text-in-Text.ensures ∙
     ap (λ (size : ℕ). maybe_text (pair_text a.payload.now (a.at + size) a.end)) c.before.before.wire_size.ensures
 
@@ -70,16 +70,16 @@ returns c =
 
 returns-2 : tie.Need-returns-in-Refused-check_pair_text
 returns-2 c =
-    let v = c.before.before.before in
-    let refused = text-refused _ _ (sym (value_there v) ∙ c.before.in-Refused-check_pair_text.is) in
-    sym (ap (place_of after_pair) (pair-no-value _ _ _ _ (name-found v.before.before.before.before) refused))
+    let v = c.before in
+    let refused = text-refused _ _ (sym (value_there v) ∙ c.in-Refused-check_pair_text.is) in
+    sym (ap (place_of after_pair) (pair-no-value _ _ _ _ (name-found v.before.before.before) refused))
 
 returns-3 : tie.Need-returns-in-Text-check_pair_text
 returns-3 c =
-    let v = c.before.before.before.before.before in
-    let found = text-found _ _ (sym (value_there v) ∙ c.before.before.before.in-Text-check_pair_text.is) in
+    let v = c.before.before.before in
+    let found = text-found _ _ (sym (value_there v) ∙ c.before.before.in-Text-check_pair_text.is) in
     ap At (omega (arith, v.before.before.wire_size.ensures, c.before.wire_size-in-Text-check_pair_text.ensures)) ∙
-    sym (ap (place_of after_pair) (pair_found _ _ _ _ (name-found v.before.before.before.before) _ found))
+    sym (ap (place_of after_pair) (pair_found _ _ _ _ (name-found v.before.before.before) _ found))
 
 pub check_pair_spec : {M : Type 1} → statement M
 check_pair_spec =

@@ -62,10 +62,10 @@ loop-less c = omega arith
 
 loop-again : tie.Need-loop-done-preserved invariant-loop decreases-loop
 loop-again c =
-    let i = c.before.before.before.before in
-    let a = i.before.args in
+    let i = c.before.before in
+    let a = i.before.before.before.args in
     let here = pair a.payload.now i.before.loop-done.at a.end in
-    let found = place_found after_pair here c.before.in-At.next (sym c.before.before.before.check_pair.ensures ∙ c.before.in-At.is) in (
+    let found = place_found after_pair here c.in-At.next (sym c.before.check_pair.ensures ∙ c.in-At.is) in (
       omega (arith, (pair-good _ _ _ found.0 found.1).1, found.2),
       omega arith,
       rw (← found.2) (turn i ∙ pairs-more _ _ _ _ _ found.0 found.1),

@@ -72,8 +72,8 @@ framed_answer c = rw c.before.read_u32-bytes.ensures at c.check_framed.ensures
 returns-3 : tie.Need-returns-in-Refused
 unfolding parse_arguments check then
 returns-3 c =
-    let f = c.before.before.before in
-    let refused = not-passed (framing f.before.before.before.before) _ (sym (framed_answer f) ∙ c.before.in-Refused.is) in
+    let f = c.before in
+    let refused = not-passed (framing f.before.before.before.before.before.before) _ (sym (framed_answer f) ∙ c.in-Refused.is) in
     rw (long f.before.before.before.before, no_flag f.before.before, refused)
 
 enum_told : tie.Need-enum_told-1
@@ -85,11 +85,11 @@ whole c = passed _ (sym (framed_answer c.before) ∙ c.in_default.is)
 -- the pair bytes lie within the section
 within :
     (c : tie.In_default) →
-    (let b = c.before.before.before in
-    let a = b.before.before.before.before.args in
+    (let b = c.before.before in
+    let a = b.before.before.before.before.before.args in
     a.at + 20 + b.read_u32-bytes.result ≤ length a.payload.now)
 within c =
-    let b = c.before.before.before in
+    let b = c.before.before in
     let a = b.before.before.before.before.before.args in
     let bytes = u32_at a.payload.now (a.at + 12) in
     omega (arith, b.read_u32-bytes.ensures, (framed-good a.payload.now a.at a.size 20 bytes (whole c)).within)
@@ -123,7 +123,7 @@ few : (c : tie.After-check_pairs) (n : ℕ) → c.check_pairs.result ≡ Rows n 
 few c n e = omega (arith, within c.before.before, counted-bound _ _ _ _ n (sym c.check_pairs.ensures ∙ e))
 
 add-t19 : tie.Need-overflow_add-result
-add-t19 c = omega (arith, few c.before.before.before c.before.in-Rows.pairs c.before.in-Rows.is)
+add-t19 c = omega (arith, few c.before c.in-Rows.pairs c.in-Rows.is)
 
 -- the answer of `check_pairs`, with the section's own row
 answer :
@@ -133,18 +133,18 @@ answer :
 unfolding parse_arguments check then
 answer c =
     let t = c.before.before in
-    let b = t.before.before.before in
-    let a = b.before.before.before.before.args in
+    let b = t.before.before in
+    let a = b.before.before.before.before.before.args in
     let p = a.payload.now in
     let rest = pairs (u32_at p (a.at + 16)) p (a.at + 20) (a.at + 20 + u32_at p (a.at + 12)) in
-    rw (long b.before.before, no_flag b, whole t) (counted-more (arguments_row) rest)
+    rw (long b.before.before.before, no_flag b.before, whole t) (counted-more (arguments_row) rest)
     ∙ ap (add 1) (sym (rw (b.read_u32-bytes.ensures, c.before.read_u32-count.ensures) at c.check_pairs.ensures))
 
 returns-4 : tie.Need-returns-in-Refused-check_pairs
-returns-4 c = sym (answer c.before.before.before ∙ ap (add 1) c.before.in-Refused-check_pairs.is)
+returns-4 c = sym (answer c.before ∙ ap (add 1) c.in-Refused-check_pairs.is)
 
 returns-5 : tie.Need-returns-in-Rows
-returns-5 c = sym (answer c.before.before.before ∙ ap (add 1) c.before.in-Rows.is)
+returns-5 c = sym (answer c.before ∙ ap (add 1) c.in-Rows.is)
 
 pub parse_arguments_spec : {M : Type 1} → statement M
 parse_arguments_spec =

@@ -77,9 +77,9 @@ enum-known-entries c = search rules
 
 add-t16 : tie.Need-overflow_add-result
 add-t16 c =
-    let e = c.before.before.before in
-    let (rs, found, count) = rows-counted _ _ (sym e.check_entries.ensures ∙ c.before.in-Rows.is) in
-    let pre = e.before.before.before.before.before.before.before.requires in
+    let e = c.before in
+    let (rs, found, count) = rows-counted _ _ (sym e.check_entries.ensures ∙ c.in-Rows.is) in
+    let pre = e.before.before.before.before.before.before.requires in
     omega (arith, entries-bound 12 _ _ content_row_at _ _ rs found, count, pre.1.0, pre.1.1)
 
 returns-3 : tie.Need-returns-in-Refused

@@ -36,13 +36,13 @@ module _ (s : tie.After-check_framed) where
   -- the compression that was found is that of the number on the wire
   known : (u16_at payload (at + 14) ≤ 1) × (checked_compression (u16_at payload (at + 14)) ≡ s.before.before.in-Known.compression)
   known =
-      let n = s.before.before.before.before.before in
-      known-compression _ _ (ap compression (sym n.before.read_u16-number.ensures) ∙ sym n.from_u16.ensures ∙ s.before.before.before.in-Known.is)
+      let n = s.before.before.before in
+      known-compression _ _ (ap compression (sym n.before.read_u16-number.ensures) ∙ sym n.from_u16.ensures ∙ s.before.before.in-Known.is)
 
   rest : parse_contents payload at size ≡ then (framed payload at size 28 (u32_at payload (at + 16))) (λ _. parse_stored (checked_compression (u16_at payload (at + 14))) payload at)
   rest =
-      let n = s.before.before.before.before.before.before in
-      contents-rest payload at size (omega arith) (sym n.read_u16.ensures ∙ n.before.if-read_u16-ne0.left) known.0
+      let n = s.before.before.before.before in
+      contents-rest payload at size (omega arith) (sym n.before.before.read_u16.ensures ∙ n.before.if-read_u16-ne0.false) known.0
 
   framed_is : verdict (framed payload at size 28 (u32_at payload (at + 16))) ≡ s.check_framed.result
   framed_is = ap (λ (b : ℕ). verdict (framed payload at size 28 b)) (sym s.before.read_u32-bytes.ensures) ∙ sym s.check_framed.ensures
@@ -86,12 +86,12 @@ enum_told c = search rules
 
 returns-3 : tie.Need-returns-in_default
 returns-3 c =
-    let n = c.before.before in
-    let a = n.before.before.before.before.before.args in
+    let n = c.before in
+    let a = n.before.before.before.before.before.before.args in
     sym
     (ap counted
-    (contents-unknown a.payload.now a.at a.size (omega arith) (sym n.before.before.read_u16.ensures ∙ n.before.if-read_u16-ne0.false)
-    (unknown-number _ (ap compression (sym n.read_u16-number.ensures) ∙ sym n.from_u16.ensures ∙ c.in_default.is))))
+    (contents-unknown a.payload.now a.at a.size (omega arith) (sym n.before.before.before.read_u16.ensures ∙ n.before.before.if-read_u16-ne0.false)
+    (unknown-number _ (ap compression (sym n.before.read_u16-number.ensures) ∙ sym n.from_u16.ensures ∙ c.in_default.is))))
 
 add-read-u32 : tie.Need-overflow_add-at-3
 add-read-u32 c = search rules
@@ -110,17 +110,17 @@ enum-told-2 c = search rules
 
 check-stored-requires : tie.Need-check_stored-requires
 check-stored-requires c κs =
-    let s = c.before.before in
-    (s.read_u32-bytes.ensures, (omega (arith, fits s c.in-Passed.is, s.before.read_u32-bytes.ensures), omega arith))
+    let s = c.before in
+    (s.before.read_u32-bytes.ensures, (omega (arith, fits s c.in-Passed.is, s.before.read_u32-bytes.ensures), omega arith))
 
 returns-4 : tie.Need-returns-in-Refused
 returns-4 c =
-    let s = c.before.before.before in
-    sym (ap counted (rest s ∙ after-fault _ _ (not-passed _ _ (framed_is s ∙ c.before.in-Refused.is))))
+    let s = c.before in
+    sym (ap counted (rest s ∙ after-fault _ _ (not-passed _ _ (framed_is s ∙ c.in-Refused.is))))
 
 returns-5 : tie.Need-returns-in-Passed
 returns-5 c =
-    let s = c.before.before.before in
+    let s = c.before.before in
     c.check_stored.ensures
     ∙ ap (λ (k : SourceCompression). counted (parse_stored k (payload s) (at s))) (sym (known s).1)
     ∙ sym (ap counted (rest s ∙ after-good _ _ (passed _ (framed_is s ∙ c.before.in-Passed.is))))

@@ -46,11 +46,11 @@ entered c = c.check_entry.ensures
 
 returns : tie.Need-returns-in-Refused invariant-loop decreases-loop
 returns c =
-    let i = c.before.before.before.before.before in
+    let i = c.before.before.before in
     let s = i.before.before.args in
     let step = entry s.header s.payload.now i.loop-done.at s.end in
-    let e = place-refused (after_entry s.header i.loop-done.at) step _ (sym (entered c.before.before.before) ∙ c.before.in-Refused.is) in
-    sym (i.loop-done.invariant.2 ∙ entries-stop _ _ _ content_row_at _ _ _ c.before.before.before.before.loop-done-test.true _ e)
+    let e = place-refused (after_entry s.header i.loop-done.at) step _ (sym (entered c.before) ∙ c.in-Refused.is) in
+    sym (i.loop-done.invariant.2 ∙ entries-stop _ _ _ content_row_at _ _ _ c.before.before.loop-done-test.true _ e)
 
 enum-known-next : tie.Need-enum_known-next invariant-loop decreases-loop
 enum-known-next c = search rules
@@ -63,13 +63,13 @@ loop-less c = omega arith
 
 loop-again : tie.Need-loop-done-preserved invariant-loop decreases-loop
 loop-again c =
-    let i = c.before.before.before.before.before in
+    let i = c.before.before.before in
     let s = i.before.before.args in
     let step = entry s.header s.payload.now i.loop-done.at s.end in
-    let found = place_found (after_entry s.header i.loop-done.at) step _ (sym (entered c.before.before.before) ∙ c.before.in-At.is) in (
+    let found = place_found (after_entry s.header i.loop-done.at) step _ (sym (entered c.before) ∙ c.in-At.is) in (
       omega (arith, found.2, (entry-good s.header s.payload.now i.loop-done.at s.end found.0 found.1).within),
       omega arith,
-      i.loop-done.invariant.2 ∙ rw found.2 at (entries-turn _ _ _ content_row_at _ _ _ c.before.before.before.before.loop-done-test.true _ found.1),
+      i.loop-done.invariant.2 ∙ rw found.2 at (entries-turn _ _ _ content_row_at _ _ _ c.before.before.loop-done-test.true _ found.1),
     )
 
 returns-2 : tie.Need-returns-then-at-end invariant-loop decreases-loop

@@ -74,15 +74,15 @@ returns-3 c =
     )
 
 -- the size counts the text and its terminator
-counts : (c : tie.In-Text-2) → c.before.before.before.read_u32-size.result ≡ wire_size c.in-Text.text.0
-counts c = wire_size-terminated c.before.before.before.read_u32-size.result _ (sym c.before.before.text_length.ensures ∙ c.in-Text.is)
+counts : (c : tie.In-Text) → c.before.before.read_u32-size.result ≡ wire_size c.in-Text.text.0
+counts c = wire_size-terminated c.before.before.read_u32-size.result _ (sym c.before.text_length.ensures ∙ c.in-Text.is)
 
 -- what is left of the entry's tests once its size has been read
 sized :
-    (c : tie.In-Text-2) → (
-    let s = c.before.before.before.before.before.before.before.before.args in
+    (c : tie.In-Text) → (
+    let s = c.before.before.before.before.before.before.before.args in
     let p = s.payload.now in
-    let size = c.before.before.before.read_u32-size.result in
+    let size = c.before.before.read_u32-size.result in
     entry s.header p s.at s.end
     ≡ check (eqb (u32_at p s.at) (aligned (s.header + size))) EntrySize (λ _.
     check (leb (s.at + aligned (s.header + size)) s.end) EntrySize (λ _.
@@ -90,13 +90,13 @@ sized :
     good (size - 1)))))
 unfolding entry check
 sized c =
-    let s = c.before.before.before.before.before.before.before.before.args in
-    let size = c.before.before.before.read_u32-size.result in
+    let s = c.before.before.before.before.before.before.before.args in
+    let size = c.before.before.read_u32-size.result in
     rw (
-      ← c.before.before.before.before.before.read_u32.ensures,
-      ← c.before.before.before.read_u32-size.ensures,
+      ← c.before.before.before.before.read_u32.ensures,
+      ← c.before.before.read_u32-size.ensures,
       le-leb (s.at + s.header) s.end (omega arith),
-      eq-eqb _ 0 c.before.before.before.before.if-read_u32-ne0.false,
+      eq-eqb _ 0 c.before.before.before.if-read_u32-ne0.false,
       lt-ltb 0 size (omega (arith, counts c)),
     )
 
@@ -113,7 +113,7 @@ returns-4 : tie.Need-returns-then-read_u32-aligned
 unfolding check
 returns-4 c =
     rw (
-      sized c.before.before.before.before,
+      sized c.before.before.before,
       ← c.before.before.align4-aligned.ensures,
       ← c.before.read_u32-2.ensures,
       ne_eqb _ _ c.if-read_u32-aligned.true,
@@ -124,7 +124,7 @@ unfolding check
 returns-5 c =
     let s = c.before.before.before.before.before.before.before.before.before.before.before.args in
     rw (
-      sized c.before.before.before.before.before,
+      sized c.before.before.before.before,
       ← c.before.before.before.align4-aligned.ensures,
       ← c.before.before.read_u32-2.ensures,
       eq-eqb _ _ c.before.if-read_u32-aligned.false,
@@ -139,24 +139,24 @@ add-terminated-utf8-2 c = search rules
 
 terminated-utf8-requires : tie.Need-terminated_utf8-requires
 terminated-utf8-requires c κs =
-    let t = c.before.before.before.before.before in
-    let fits = le-aligned (t.before.before.before.before.before.before.args.header + t.before.read_u32-size.result) in
+    let t = c.before.before.before.before in
+    let fits = le-aligned (t.before.before.before.before.before.before.before.args.header + t.before.before.read_u32-size.result) in
     (omega (arith, counts t), omega arith)
 
 -- what is left of them once the entry is known to end within its bytes
 bounded :
     (c : tie.Else-left-aligned) → (
-    let t = c.before.before.before.before.before in
-    let s = t.before.before.before.before.before.before.args in
+    let t = c.before.before.before.before in
+    let s = t.before.before.before.before.before.before.before.args in
     let p = s.payload.now in
-    let size = t.before.read_u32-size.result in
+    let size = t.before.before.read_u32-size.result in
     entry s.header p s.at s.end
     ≡ then (terminated_text p (s.at + s.header) size (padding (s.header + size))) (λ _.
     good (size - 1)))
 unfolding check
 bounded c =
-    let t = c.before.before.before.before.before in
-    let s = t.before.before.before.before.before.before.args in
+    let t = c.before.before.before.before in
+    let s = t.before.before.before.before.before.before.before.args in
     rw (
       sized t,
       ← c.before.before.before.align4-aligned.ensures,
@@ -168,15 +168,15 @@ bounded c =
 -- the text, its terminator and the zeros fill the entry after its header
 filled :
     (c : tie.After-terminated_utf8) → (
-    let t = c.before.before.before.before.before.before in
-    let s = t.before.before.before.before.before.before.args in
-    let size = t.before.read_u32-size.result in
+    let t = c.before.before.before.before.before in
+    let s = t.before.before.before.before.before.before.before.args in
+    let size = t.before.before.read_u32-size.result in
     c.terminated_utf8.result ≡ verdict (terminated_text s.payload.now (s.at + s.header) size (padding (s.header + size))))
 unfolding aligned
 filled c =
-    let t = c.before.before.before.before.before.before in
-    let s = t.before.before.before.before.before.before.args in
-    let size = t.before.read_u32-size.result in
+    let t = c.before.before.before.before.before in
+    let s = t.before.before.before.before.before.before.before.args in
+    let size = t.before.before.read_u32-size.result in
     let end = s.at + c.before.before.before.before.align4-aligned.result in
     let zeros : end - (s.at + s.header + wire_size t.in-Text.text.0) ≡ padding (s.header + size) = omega (arith, counts t) in
     rw (zeros, ← counts t) at c.terminated_utf8.ensures
@@ -193,28 +193,28 @@ enum-known-refusal c = search rules
 returns-6 : tie.Need-returns-in-Passed
 unfolding then
 returns-6 c =
-    let t = c.before.before.before.before.before.before.before.before in
-    let s = t.before.before.before.before.before.args in
-    let size = t.read_u32-size.result in
+    let t = c.before.before.before.before.before.before in
+    let s = t.before.before.before.before.before.before.before.args in
+    let size = t.before.before.read_u32-size.result in
     let text = terminated_text s.payload.now (s.at + s.header) size (padding (s.header + size)) in
     let back : wire_size (size - 1) ≡ size = omega (arith, counts t) in
     rw (
-      bounded c.before.before.before,
-      passed text (sym (filled c.before.before) ∙ c.in-Passed.is),
+      bounded c.before.before,
+      passed text (sym (filled c.before) ∙ c.in-Passed.is),
       back,
-      ← c.before.before.before.before.before.before.align4-aligned.ensures,
+      ← c.before.before.before.before.before.align4-aligned.ensures,
     )
 
 returns-7 : tie.Need-returns-in-Refused
 unfolding then
 returns-7 c =
-    let t = c.before.before.before.before.before.before.before.before.before in
-    let s = t.before.before.before.before.args in
-    let size = t.before.before.before.read_u32-size.result in
+    let t = c.before.before.before.before.before.before in
+    let s = t.before.before.before.before.before.before.before.args in
+    let size = t.before.before.read_u32-size.result in
     let text = terminated_text s.payload.now (s.at + s.header) size (padding (s.header + size)) in
     rw (
-      bounded c.before.before.before.before,
-      not-passed text _ (sym (filled c.before.before.before) ∙ c.before.in-Refused.is),
+      bounded c.before.before,
+      not-passed text _ (sym (filled c.before) ∙ c.in-Refused.is),
     )
 
 pub check_entry_spec : {M : Type 1} → statement M

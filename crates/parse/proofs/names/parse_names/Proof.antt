@@ -39,7 +39,7 @@ module _ (s : tie.After-check_framed) where
   bytes = s.before.read_u16-bytes.result
 
   rest : parse_names payload at size ≡ then (framed payload at size 18 (u16_at payload (at + 16))) (λ _. then (entries 16 (name_row_at payload) (u32_at payload (at + 12)) payload (at + 18) (at + 18 + u16_at payload (at + 16))) (λ rows. good (names_row ∷ rows)))
-  rest = names-rest payload at size (omega arith) (sym s.before.before.before.read_u32.ensures ∙ s.before.before.if-read_u32-ne0.left)
+  rest = names-rest payload at size (omega arith) (sym s.before.before.before.read_u32.ensures ∙ s.before.before.if-read_u32-ne0.false)
 
   framed_is : verdict (framed payload at size 18 (u16_at payload (at + 16))) ≡ s.check_framed.result
   framed_is = ap (λ (b : ℕ). verdict (framed payload at size 18 b)) (sym s.before.read_u16-bytes.ensures) ∙ sym s.check_framed.ensures
@@ -51,9 +51,9 @@ module _ (s : tie.After-check_framed) where
       (arith, (framed-good payload at size 18 (u16_at payload (at + 16)) (passed _ (framed_is ∙ e))).within)
 
 -- and past the frame the definition counts one row more than the entries
-whole : (e : tie.After-check_entries) → (let s = e.before.before.before.before in counted (parse_names (payload s) (at s) (size s)) ≡ add 1 e.check_entries.result)
+whole : (e : tie.After-check_entries) → (let s = e.before.before.before in counted (parse_names (payload s) (at s) (size s)) ≡ add 1 e.check_entries.result)
 whole e =
-    let s = e.before.before.before.before in
+    let s = e.before.before.before in
     ap counted (rest s ∙ after-good _ _ (passed _ (framed_is s ∙ e.before.before.in_default.is)))
     ∙ counted-more _ _
     ∙ ap (add 1)
@@ -94,10 +94,10 @@ enum-known-refusal c = search rules
 
 returns-3 : tie.Need-returns-in-Refused
 returns-3 c =
-    let s = c.before.before.before in
+    let s = c.before in
     sym
     (ap counted
-    (rest s ∙ after-fault _ _ (not-passed _ _ (framed_is s ∙ c.before.in-Refused.is))))
+    (rest s ∙ after-fault _ _ (not-passed _ _ (framed_is s ∙ c.in-Refused.is))))
 
 enum_told : tie.Need-enum_told-1
 enum_told c = search rules
@@ -119,7 +119,7 @@ add-check-entries c = search rules
 
 check-entries-requires : tie.Need-check_entries-requires
 check-entries-requires c κs =
-    let s = c.before.before.before in
+    let s = c.before.before in
     (omega arith, omega (arith, fits s c.before.in_default.is, s.before.read_u16-bytes.ensures))
 
 enum-known-refusal-2 : tie.Need-enum_known-refusal-in-Refused-check_entries
@@ -130,16 +130,16 @@ enum-known-entries c = search rules
 
 add-t19 : tie.Need-overflow_add-result
 add-t19 c =
-    let e = c.before.before.before in
-    let s = e.before.before.before.before in
-    let (rs, found, count) = rows-counted _ _ (sym e.check_entries.ensures ∙ c.before.in-Rows.is) in
-    omega (arith, entries-bound 16 _ _ content_row_at _ _ rs found, count, s.before.read_u16-bytes.type-inv)
+    let e = c.before in
+    let s = e.before.before.before in
+    let (rs, found, count) = rows-counted _ _ (sym e.check_entries.ensures ∙ c.in-Rows.is) in
+    omega (arith, entries-bound 16 _ _ content_row_at _ _ rs found, count, s.before.read_u16-bytes.type_inv)
 
 returns-4 : tie.Need-returns-in-Refused-check_entries
-returns-4 c = sym (whole c.before.before.before ∙ ap (add 1) c.before.in-Refused-check_entries.is)
+returns-4 c = sym (whole c.before ∙ ap (add 1) c.in-Refused-check_entries.is)
 
 returns-5 : tie.Need-returns-in-Rows
-returns-5 c = sym (whole c.before.before.before ∙ ap (add 1) c.before.in-Rows.is)
+returns-5 c = sym (whole c.before ∙ ap (add 1) c.in-Rows.is)
 
 pub parse_names_spec : {M : Type 1} → statement M
 parse_names_spec =

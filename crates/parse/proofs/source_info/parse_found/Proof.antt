@@ -41,9 +41,9 @@ enum-known-more c = search rules
 
 add-t12 : tie.Need-overflow_add-result
 add-t12 c =
-    let a = c.before.before.before in
-    let s = a.before in
-    let half = half-of-size s.args.payload.now _ _ (inside a.before) (sym a.parse_section.ensures ∙ c.before.in-Rows.is) in
+    let a = c.before in
+    let s = a.before.before.before in
+    let half = half-of-size s.args.payload.now _ _ (inside a.before) (sym a.parse_section.ensures ∙ c.in-Rows.is) in
     omega (arith, half, (inside a.before).1, s.requires.1, s.requires.2)
 
 returns : tie.Need-returns-in-Refused
@@ -53,13 +53,13 @@ returns c =
 
 returns-2 : tie.Need-returns-in-Refused-parse_section
 returns-2 c =
-    let a = c.before.before.before in
-    sym (ap (add a.before.args.rows) c.in-Refused-parse_section.is) ∙ sum_is a
+    let a = c.before in
+    sym (ap (add a.before.before.before.args.rows) c.in-Refused-parse_section.is) ∙ sum_is a
 
 returns-3 : tie.Need-returns-in-Rows
 returns-3 c =
-    let a = c.before.before.before in
-    sym (ap (add a.before.args.rows) c.in-Rows.is) ∙ sum_is a
+    let a = c.before in
+    sym (ap (add a.before.before.before.args.rows) c.in-Rows.is) ∙ sum_is a
 
 pub parse_found_spec : {M : Type 1} → statement M
 parse_found_spec =

@@ -25,7 +25,6 @@ pub parse_section_spec : {M : Type 1} → statement M
 parse_section_spec =
     tie.close
     (tie.spec
-
     (λ c. search rules)
     (λ c κs. search rules)
     (λ c. search rules)

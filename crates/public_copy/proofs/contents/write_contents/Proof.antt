@@ -14,11 +14,11 @@ use Rattle.public_copy.proofs.contents.write_contents.Statement.{statement}
 use Rattle.public_copy.proofs.contents.write_contents.Tie as tie
 
 -- how long the copy is, by the compression
-plain_size : (c : tie.In-None) → (let a = c.before.before.before.args in length (contents_copy a.compression a.count) ≡ 28 + 16 * a.count)
-plain_size c = rw c.in-None.is (plain-long c.before.before.before.args.count)
+plain_size : (c : tie.In-None) → (let a = c.before.before.args in length (contents_copy a.compression a.count) ≡ 28 + 16 * a.count)
+plain_size c = rw c.in-None.is (plain-long c.before.before.args.count)
 
-packed-size : (c : tie.In-Zlib) → (let a = c.before.before.before.args in length (contents_copy a.compression a.count) ≡ 28)
-packed-size c = rw c.in-Zlib.is (packed-long c.before.before.before.args.count)
+packed-size : (c : tie.In-Zlib) → (let a = c.before.before.args in length (contents_copy a.compression a.count) ≡ 28)
+packed-size c = rw c.in-Zlib.is (packed-long c.before.before.args.count)
 
 add-entries : tie.Need-overflow_add-entries
 add-entries c = search rules
@@ -55,7 +55,7 @@ returns c =
     let e = c.before.before in
     let h = e.before.before.before.before in
     let plain = h.before.before in
-    let a = plain.before.before.before.args in
+    let a = plain.before.before.args in
     let count = a.count in (
       omega (arith, plain_size plain),
       rw (e.write_entries.ensures, h.write_headers.ensures, plain.in-None.is, plain_copy count)
@@ -69,7 +69,7 @@ returns-2 : tie.Need-returns-in-Zlib
 returns-2 c =
     let h = c.before.before in
     let packed = h.before.before in
-    let a = packed.before.before.before.args in
+    let a = packed.before.before.args in
     (omega (arith, packed-size packed), rw (h.write_headers-in-Zlib.ensures, packed.in-Zlib.is, packed-copy a.count))
 
 pub write_contents_spec : {M : Type 1} → statement M

@@ -31,12 +31,12 @@ section-told c e = rw e at c.requires.0
 
 -- the copy of contents is no longer than they are
 contents-told : (c : tie.In-SourceContents) →
-    (let a = c.before.before.before.before.args in
+    (let a = c.before.before.before.args in
     let p = a.payload.now in
     length (contents_copy (compression_at p a.at) (u32_at p (a.at + 24))) ≤ u32_at p a.at)
 unfolding parse_section
 contents-told c =
-    let s = c.before.before.before.before in
+    let s = c.before.before.before in
     let p = s.args.payload.now in
     let at = s.args.at in
     let found = is-good (parse_contents p at (u32_at p at)) (section-told s c.in-SourceContents.is) in
@@ -44,7 +44,7 @@ contents-told c =
 
 compression-told :
     (c : tie.After-checked) →
-    (let a = c.before.before.before.before.before.before.before.args in c.checked.result ≡ compression_at a.payload.now a.at)
+    (let a = c.before.before.before.before.before.before.args in c.checked.result ≡ compression_at a.payload.now a.at)
 compression-told c = c.checked.ensures ∙ ap checked_compression c.before.read_u16.ensures
 
 enum_told : tie.Need-enum_told-1
@@ -68,7 +68,7 @@ read-u32-requires c κs = search rules
 write-contents-requires : tie.Need-write_contents-requires
 write-contents-requires c κs =
     let t = c.before.before.before.before in
-    let s = t.before.before.before.before in
+    let s = t.before.before.before in
     rw (c.read_u32.ensures, compression-told c.before) (omega (arith, contents-told t, s.requires.1))
 
 enum-told-2 : tie.Need-enum_told-in-SourceNames
@@ -78,7 +78,7 @@ copy-names-requires : tie.Need-copy_names-requires
 unfolding parse_section
 copy-names-requires c κs =
     let t = c.before in
-    let s = t.before.before.before.before in
+    let s = t.before.before.before in
     (section-told s t.in-SourceNames.is, s.requires.1)
 
 enum-told-3 : tie.Need-enum_told-in-Arguments
@@ -143,7 +143,7 @@ returns-3 c =
     let w = c.before.before in
     let r = w.before.before.before in
     let t = r.before in
-    let s = t.before.before.before.before in
+    let s = t.before.before.before in
     let a = s.args in
     let p = a.payload.now in
     let size = u32_at p a.at in

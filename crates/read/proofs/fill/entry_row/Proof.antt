@@ -6,18 +6,17 @@ use Rattle.read.proofs.fill.entry_row.Tie as tie
 returns : tie.Need-returns-in-Content
 returns c =
     let told = c.before in
-    rw (told.in-Content.is, c.content.ensures, told.before.before.entry_text-text.ensures)
+    rw (told.in-Content.is, c.content.ensures, told.before.entry_text-text.ensures)
 
 returns-2 : tie.Need-returns-in-Name
 returns-2 c =
     let told = c.before.before in
-    rw (told.in-Name.is, c.name.ensures, told.before.before.entry_text-text.ensures, c.before.read_u32.ensures)
+    rw (told.in-Name.is, c.name.ensures, told.before.entry_text-text.ensures, c.before.read_u32.ensures)
 
 pub entry_row_spec : {M : Type 1} → statement M
 entry_row_spec =
     tie.close
     (tie.spec
-
     (λ c κs. search rules)
     (λ c. search rules)
     (λ c. search rules)

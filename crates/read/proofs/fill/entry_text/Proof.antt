@@ -27,13 +27,13 @@ enum_told c = search rules
 
 returns : tie.Need-returns-in-Text
 returns c =
-    let call = c.before.before.before in
-    let size = wire_size-terminated _ _ (sym call.text_length.ensures ∙ c.before.in-Text.is) in
+    let call = c.before in
+    let size = wire_size-terminated _ _ (sym call.text_length.ensures ∙ c.in-Text.is) in
     omega (arith, size, call.before.read_u32.ensures)
 
 returns-2 : tie.Need-returns-in-Nothing
 returns-2 c =
-    let call = c.before.before in
+    let call = c.before in
     let size = no_text _ (omega arith) (sym call.text_length.ensures ∙ c.in-Nothing.is) in
     omega (arith, size, call.before.read_u32.ensures)
 

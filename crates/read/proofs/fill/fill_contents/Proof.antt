@@ -25,10 +25,10 @@ compression-told c t e = ap checked_compression (sym c.before.read_u16.ensures) 
 -- the entries of plain contents end within the section
 plain-within :
     (c : tie.In-None) →
-    (let a = c.before.before.before.before.before.before.args in
+    (let a = c.before.before.before.before.before.args in
     entries_end a.payload.now (u32_at a.payload.now (a.at + 24)) (a.at + 28) ≤ a.at + u32_at a.payload.now a.at)
 plain-within c =
-    let section = c.before.before in
+    let section = c.before in
     let start = section.before.before.before.before in
     let a = start.args in
     let whole = is-good _ start.requires.0 in
@@ -38,7 +38,7 @@ fill-entries-requires : tie.Need-fill_entries-requires
 fill-entries-requires c κs =
     let count = c.before in
     let plain = count.before.before.before.before.before.before.before in
-    let start = plain.before.before.before.before.before.before in
+    let start = plain.before.before.before.before.before in
     let a = start.args in
     rw count.read_u32-count.ensures (omega (
       arith,
@@ -54,7 +54,7 @@ returns c =
     let count = entries.before.before in
     let head = count.before.before.before in
     let plain = head.before.before.before.before in
-    let section = plain.before.before in
+    let section = plain.before in
     let a = section.before.before.before.before.args in
     rw (compression-told section None plain.in-None.is) (
       omega (arith, count.read_u32-count.ensures, length-walk_entries a.payload.now (content_at a.payload.now) (u32_at a.payload.now (a.at + 24)) (a.at + 28)),
@@ -66,14 +66,13 @@ unfolding store_rows walk_contents
 returns-2 c =
     let head = c.before.before in
     let packed = head.before.before.before in
-    rw (compression-told packed.before.before Zlib packed.in-Zlib.is) (omega arith, rw (head.store-in-Zlib.ensures, head.before.before.packed_row.ensures))
+    rw (compression-told packed.before Zlib packed.in-Zlib.is) (omega arith, rw (head.store-in-Zlib.ensures, head.before.before.packed_row.ensures))
 
 -- Besides: no sum wraps, a length keeps its place, and what the callees ask of the numbers holds.
 pub fill_contents_spec : {M : Type 1} → statement M
 fill_contents_spec =
     tie.close
     (tie.spec
-
     (λ c. search rules)
     (λ c κs. search rules)
     (λ c κs. search rules)

@@ -37,18 +37,18 @@ fill-contents-requires : tie.Need-fill_contents-requires
 unfolding parse_section
 fill-contents-requires c κs =
     let told = c.before in
-    let section = told.before.before in
+    let section = told.before in
     let pre = section.before.before.before.before.requires in
     (rw (kind-told section SourceContents told.in-SourceContents.is) at pre.0, pre.1.1)
 
 -- the entries of names, and the pairs of arguments, end within the section
 names-within :
     (c : tie.In-SourceNames) →
-    (let a = c.before.before.before.before.before.before.args in
+    (let a = c.before.before.before.before.before.args in
     entries_end a.payload.now (u32_at a.payload.now (a.at + 12)) (a.at + 18) ≤ a.at + u32_at a.payload.now a.at)
 unfolding parse_section
 names-within c =
-    let section = c.before.before in
+    let section = c.before in
     let a = section.before.before.before.before.args in
     let whole = section-told section SourceNames c.in-SourceNames.is in
     (names-walk a.payload.now a.at (u32_at a.payload.now a.at) whole.0 whole.1).1
@@ -57,7 +57,7 @@ fill-entries-requires : tie.Need-fill_entries-requires
 fill-entries-requires c κs =
     let count = c.before in
     let told = count.before.before.before.before.before.before in
-    let start = told.before.before.before.before.before.before in
+    let start = told.before.before.before.before.before in
     let a = start.args in
     rw count.read_u32-count.ensures (omega (
       arith,
@@ -68,11 +68,11 @@ fill-entries-requires c κs =
 
 arguments-within :
     (c : tie.In-Arguments) →
-    (let a = c.before.before.before.before.before.before.args in
+    (let a = c.before.before.before.before.before.args in
     pairs_end a.payload.now (u32_at a.payload.now (a.at + 16)) (a.at + 20) ≤ a.at + u32_at a.payload.now a.at)
 unfolding parse_section
 arguments-within c =
-    let section = c.before.before in
+    let section = c.before in
     let a = section.before.before.before.before.args in
     let whole = section-told section Arguments c.in-Arguments.is in
     (arguments-walk a.payload.now a.at (u32_at a.payload.now a.at) whole.0 whole.1).1
@@ -81,7 +81,7 @@ fill-pairs-requires : tie.Need-fill_pairs-requires
 fill-pairs-requires c κs =
     let count = c.before in
     let told = count.before.before.before.before.before.before in
-    let start = told.before.before.before.before.before.before in
+    let start = told.before.before.before.before.before in
     let a = start.args in
     rw count.read_u32-count-in-Arguments.ensures (omega (
       arith,
@@ -95,14 +95,14 @@ unfolding walk_section
 returns c =
     let call = c.before.before in
     let told = call.before.before in
-    rw (kind-told told.before.before SourceContents told.in-SourceContents.is) call.fill_contents.ensures
+    rw (kind-told told.before SourceContents told.in-SourceContents.is) call.fill_contents.ensures
 
 returns-2 : tie.Need-returns-in-SourceNames
 unfolding store_rows walk_section
 returns-2 c =
     let count = c.before.before.before.before in
     let told = count.before.before.before.before.before.before in
-    let section = told.before.before in
+    let section = told.before in
     let a = section.before.before.before.before.args in
     rw (kind-told section SourceNames told.in-SourceNames.is) (
       omega (arith, count.read_u32-count.ensures, length-walk_entries a.payload.now (name_at a.payload.now) (u32_at a.payload.now (a.at + 12)) (a.at + 18)),
@@ -114,7 +114,7 @@ unfolding store_rows walk_section
 returns-3 c =
     let count = c.before.before.before.before in
     let told = count.before.before.before.before.before.before in
-    let section = told.before.before in
+    let section = told.before in
     let a = section.before.before.before.before.args in
     rw (kind-told section Arguments told.in-Arguments.is) (
       omega (arith, count.read_u32-count-in-Arguments.ensures, length-walk_pairs a.payload.now (u32_at a.payload.now (a.at + 16)) (a.at + 20)),
@@ -125,14 +125,13 @@ returns-4 : tie.Need-returns-in-Unknown
 unfolding store_rows walk_section
 returns-4 c =
     let head = c.before.before in
-    let told = head.before.before.before.before in
-    rw (kind-told told.before.before _ told.in-Unknown.is) (omega arith, rw (head.store-in-Unknown.ensures, head.before.before.unknown_row.ensures))
+    let told = head.before.before.before in
+    rw (kind-told told.before _ told.in-Unknown.is) (omega arith, rw (head.store-in-Unknown.ensures, head.before.before.unknown_row.ensures))
 
 pub fill_section_spec : {M : Type 1} → statement M
 fill_section_spec =
     tie.close
     (tie.spec
-
     (λ c. search rules)
     (λ c κs. search rules)
     (λ c κs. search rules)

@@ -10,7 +10,6 @@ pub packed_row_spec : {M : Type 1} → statement M
 packed_row_spec =
     tie.close
     (tie.spec
-
     (λ c. search rules)
     (λ c κs. search rules)
     (λ c. search rules)

@@ -20,7 +20,6 @@ pub pair_row_spec : {M : Type 1} → statement M
 pair_row_spec =
     tie.close
     (tie.spec
-
     (λ c κs. search rules)
     (λ c. search rules)
     (λ c κs. search rules)

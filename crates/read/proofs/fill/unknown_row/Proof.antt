@@ -10,7 +10,6 @@ pub unknown_row_spec : {M : Type 1} → statement M
 unknown_row_spec =
     tie.close
     (tie.spec
-
     (λ c. search rules)
     (λ c. search rules)
     (λ c κs. search rules)

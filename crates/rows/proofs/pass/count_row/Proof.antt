@@ -21,7 +21,6 @@ pub count_row_spec : {M : Type 1} → statement M
 count_row_spec =
     tie.close
     (tie.spec
-
     (λ c κs. search rules)
     (λ c κs. search rules)
     (λ c. search rules)

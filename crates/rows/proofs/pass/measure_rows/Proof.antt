@@ -44,7 +44,7 @@ new-requires : tie.Need-new-sizes-requires invariant-loop decreases-loop
 new-requires c κs = search rules
 
 loop-holds : tie.Need-loop-index-init invariant-loop decreases-loop
-loop-holds c = (omega arith, rw c.new.ensures)
+loop-holds c = (omega arith, rw c.new-sizes.ensures)
 
 load-requires : tie.Need-load-row-requires invariant-loop decreases-loop
 load-requires c κs = search rules
@@ -57,8 +57,8 @@ enum-known-refusal c = search rules
 
 returns : tie.Need-returns-in-Refused invariant-loop decreases-loop
 returns c =
-    let r = c.before.before.before in
-    let told = sym r.check_row.ensures ∙ c.before.in-Refused.is in
+    let r = c.before in
+    let told = sym r.check_row.ensures ∙ c.in-Refused.is in
     sym (ap measured (turn r.before ∙ measure-refused _ _ _ _ _ _ told))
 
 enum_told : tie.Need-enum_told-1 invariant-loop decreases-loop
@@ -75,8 +75,8 @@ loop-less c = omega arith
 
 loop-again : tie.Need-loop-index-preserved invariant-loop decreases-loop
 loop-again c =
-    let r = c.before.before.before in
-    let l = r.before.before.loop-index in
+    let r = c.before.before in
+    let l = r.before.before.before.loop-index in
     let told = sym r.check_row.ensures ∙ c.before.in-Passed.is in (
       omega arith,
       rw c.count_row-sizes.ensures (sym (turn r.before ∙ measure-passed _ _ _ _ _ told)),

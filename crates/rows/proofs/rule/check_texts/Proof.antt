@@ -21,14 +21,14 @@ returns-2 c = rw c.before.in-Name.is (c.check_span-in-Name.ensures ∙ last-text
 returns-3 : tie.Need-returns-in-Refused
 unfolding spans_by check_texts
 returns-3 c =
-    let first = c.before.before.before in
-    rw first.before.in-Pair.is (sym (ap verdict (after-fault _ _ (not-passed _ _ (sym first.check_span-in-Pair.ensures ∙ c.before.in-Refused.is)))))
+    let first = c.before in
+    rw first.before.in-Pair.is (sym (ap verdict (after-fault _ _ (not-passed _ _ (sym first.check_span-in-Pair.ensures ∙ c.in-Refused.is)))))
 
 returns-4 : tie.Need-returns-in-Passed
 unfolding spans_by check_texts
 returns-4 c =
-    let first = c.before.before.before in
-    rw first.in-Pair.is
+    let first = c.before.before in
+    rw first.before.in-Pair.is
     (c.check_span-in-Passed.ensures ∙ last-text _ ∙ sym (ap verdict (after-good _ _ (passed _ (sym first.check_span-in-Pair.ensures ∙ c.before.in-Passed.is)))))
 
 returns-5 : tie.Need-returns-in-PlainContents
@@ -59,7 +59,6 @@ pub check_texts_spec : {M : Type 1} → statement M
 check_texts_spec =
     tie.close
     (tie.spec
-
     (λ c. search rules)
     (λ c κs. search rules)
     (λ c. search rules)

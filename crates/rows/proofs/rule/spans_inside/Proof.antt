@@ -47,7 +47,6 @@ pub spans_inside_spec : {M : Type 1} → statement M
 spans_inside_spec =
     tie.close
     (tie.spec
-
     (λ c. search rules)
     (λ c. search rules)
     (λ c κs. search rules)

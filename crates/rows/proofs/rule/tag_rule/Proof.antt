@@ -46,7 +46,6 @@ pub tag_rule_spec : {M : Type 1} → statement M
 tag_rule_spec =
     tie.close
     (tie.spec
-
     (λ c. search rules)
     (λ c κs. search rules)
     (λ c. search rules)

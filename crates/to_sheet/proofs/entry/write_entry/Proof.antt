@@ -34,11 +34,11 @@ content-long text = simp length-append
 -- the line, with the length that was read
 content-read :
     (c : tie.In-Content) →
-    (let a = c.before.before.before.before.before.args in
-    line (entry_at a.payload.now a.kind a.at) ≡ content (part a.payload.now (a.at + 12) c.before.before.text_length-text.result.0))
+    (let a = c.before.before.before.before.args in
+    line (entry_at a.payload.now a.kind a.at) ≡ content (part a.payload.now (a.at + 12) c.before.text_length-text.result.0))
 content-read c =
-    let a = c.before.before.before.before.before.args in
-    rw (c.in-Content.is, c.before.before.text_length-text.ensures) (is-content a.payload.now a.at)
+    let a = c.before.before.before.before.args in
+    rw (c.in-Content.is, c.before.text_length-text.ensures) (is-content a.payload.now a.at)
 
 -- ---- a name
 
@@ -59,7 +59,7 @@ name-read :
     line (entry_at a.payload.now a.kind a.at) ≡ name c.read_u32-size.result (part a.payload.now (a.at + 16) c.before.before.before.before.before.before.before.before.text_length-text.result.0))
 name-read c =
     let a = c.before.before.before.before.before.before.before.before.before.before.before.args in
-    rw (c.before.before.before.before.before.before.in-Name.is, c.before.before.before.before.before.before.before.before.text_length-text.ensures, c.read_u32-size.ensures) (is_name a.payload.now a.at)
+    rw (c.before.before.before.before.before.before.before.in-Name.is, c.before.before.before.before.before.before.before.before.text_length-text.ensures, c.read_u32-size.ensures) (is_name a.payload.now a.at)
 
 text-length-requires : tie.Need-text_length-text-requires
 text-length-requires c κs = search rules
@@ -89,9 +89,9 @@ add-result : tie.Need-overflow_add-result
 add-result c =
     let text = c.before.before.before.before.before.before.before in
     let told = text.before.before.before.before.before.before.before in
-    let s = told.before.before.before.before.before in
-    let a = s.args in
-    omega (arith, s.requires.1, ap length (content-read told), content-long (part a.payload.now (a.at + 12) told.before.before.text_length-text.result.0), text.write_text-end.ensures.0)
+    let s = told.before.before.before.before in
+    let a = s.before.before.args in
+    omega (arith, s.before.before.requires.1, ap length (content-read told.before.before), content-long (part a.payload.now (a.at + 12) told.before.before.before.text_length-text.result.0), text.before.write_text-end.ensures.0)
 
 enum-told-2 : tie.Need-enum_told-in-Name
 enum-told-2 c = search rules
@@ -118,9 +118,9 @@ cast-write-text-2 : tie.Need-overflow_cast-next
 cast-write-text-2 c =
     let number = c.before.before.before in
     let read = number.before.before in
-    let s = read.before.before.before.before.before.before.before.before.before.before.before in
-    let a = s.args in
-    omega (arith, s.requires.1, ap length (name-read read), name-long read.read_u32-size.result (part a.payload.now (a.at + 16) read.before.before.before.before.before.before.before.before.text_length-text.result.0), number.write_number-next.ensures.0)
+    let s = read.before.before.before.before.before.before.before.before.before.before in
+    let a = s.before.args in
+    omega (arith, s.before.requires.1, ap length (name-read read), name-long read.read_u32-size.result (part a.payload.now (a.at + 16) read.before.before.before.before.before.before.before.before.text_length-text.result.0), number.write_number-next.ensures.0)
 
 add-write-text-3 : tie.Need-overflow_add-at-in-Name-2
 add-write-text-3 c = search rules
@@ -136,9 +136,9 @@ add-result-2 c =
     let text = c.before.before.before.before.before.before.before in
     let number = text.before.before.before.before in
     let read = number.before.before in
-    let s = read.before.before.before.before.before.before.before.before.before.before.before in
-    let a = s.args in
-    omega (arith, s.requires.1, ap length (name-read read), name-long read.read_u32-size.result (part a.payload.now (a.at + 16) read.before.before.before.before.before.before.before.before.text_length-text.result.0), number.write_number-next.ensures.0, text.write_text-end-in-Name.ensures.0)
+    let s = read.before.before.before.before.before.before.before.before.before.before in
+    let a = s.before.before.args in
+    omega (arith, s.before.before.requires.1, ap length (name-read read.before), name-long read.before.read_u32-size.result (part a.payload.now (a.at + 16) read.before.before.before.before.before.before.before.before.before.text_length-text.result.0), number.before.write_number-next.ensures.0, text.before.write_text-end-in-Name.ensures.0)
 
 same_length : tie.Need-shape_of-output-in-Content
 same_length c = search rules
@@ -150,11 +150,11 @@ returns c =
     let text = last.before.before.before.before.before in
     let word = text.before.before.before.before in
     let told = text.before.before.before.before.before.before.before in
-    let a = told.before.before.before.before.before.args in
-    let one : Stored a.output.now a.to (ascii "content") _ (a.to + 7) = first-stored word.write_bytes.ensures refl in
-    let two = then-stored (field (escape (part a.payload.now (a.at + 12) told.before.before.text_length-text.result.0))) one text.write_text-end.ensures.1 text.write_text-end.ensures.0 in
+    let a = told.before.before.before.before.before.before.args in
+    let one : Stored a.output.now a.to (ascii "content") _ (a.to + 7) = first-stored word.before.write_bytes.ensures refl in
+    let two = then-stored (field (escape (part a.payload.now (a.at + 12) told.before.before.before.text_length-text.result.0))) one text.before.write_text-end.ensures.1 text.before.write_text-end.ensures.0 in
     let all = then-stored end two last.write_bytes-in-Content.ensures refl in
-    let is = content-read told in
+    let is = content-read told.before.before in
     (all.ends ∙ ap (λ (l : List ℕ). a.to + length l) (sym is), all.is ∙ ap (sets a.output.now a.to) (sym is))
 
 same-length-2 : tie.Need-shape_of-output-in-Name
@@ -168,12 +168,12 @@ returns-2 c =
     let number = text.before.before.before.before in
     let read = number.before.before in
     let word = number.before.before.before.before.before in
-    let a = read.before.before.before.before.before.before.before.before.before.before.before.args in
-    let one : Stored a.output.now a.to (ascii "name") _ (a.to + 4) = first-stored word.write_bytes-in-Name.ensures refl in
-    let two = then-stored (field (decimal read.read_u32-size.result)) one number.write_number-next.ensures.1 number.write_number-next.ensures.0 in
-    let three = then-stored (field (escape (part a.payload.now (a.at + 16) read.before.before.before.before.before.before.before.before.text_length-text.result.0))) two text.write_text-end-in-Name.ensures.1 text.write_text-end-in-Name.ensures.0 in
+    let a = read.before.before.before.before.before.before.before.before.before.before.before.before.args in
+    let one : Stored a.output.now a.to (ascii "name") _ (a.to + 4) = first-stored word.before.write_bytes-in-Name.ensures refl in
+    let two = then-stored (field (decimal read.before.read_u32-size.result)) one number.before.write_number-next.ensures.1 number.before.write_number-next.ensures.0 in
+    let three = then-stored (field (escape (part a.payload.now (a.at + 16) read.before.before.before.before.before.before.before.before.before.text_length-text.result.0))) two text.before.write_text-end-in-Name.ensures.1 text.before.write_text-end-in-Name.ensures.0 in
     let all = then-stored end three last.write_bytes-in-Name-2.ensures refl in
-    let is = name-read read in
+    let is = name-read read.before in
     (all.ends ∙ ap (λ (l : List ℕ). a.to + length l) (sym is), all.is ∙ ap (sets a.output.now a.to) (sym is))
 
 pub write_entry_spec : {M : Type 1} → statement M

@@ -44,8 +44,8 @@ write-text-requires c κs = search rules
 cast-write-text-2 : tie.Need-overflow_cast-next
 cast-write-text-2 c =
     let s = c.before.before.before.before.before.before.before.before.before.before.before.before in
-    let a = s.args in
-    omega (arith, s.requires, long a.payload.now a.at a.name.0 a.start a.value.0, c.before.before.before.write_text-next.ensures.0)
+    let a = s.before.args in
+    omega (arith, s.before.requires, long a.payload.now a.at a.name.0 a.start a.value.0, c.before.before.before.write_text-next.ensures.0)
 
 write-text-requires-2 : tie.Need-write_text-end-requires
 write-text-requires-2 c κs = search rules
@@ -58,8 +58,8 @@ add-result c =
     let second = c.before.before.before.before.before.before.before in
     let first = second.before.before.before.before in
     let s = first.before.before.before.before.before.before.before.before.before in
-    let a = s.args in
-    omega (arith, s.requires, long a.payload.now a.at a.name.0 a.start a.value.0, first.write_text-next.ensures.0, second.write_text-end.ensures.0)
+    let a = s.before.before.args in
+    omega (arith, s.before.before.requires, long a.payload.now a.at a.name.0 a.start a.value.0, first.before.write_text-next.ensures.0, second.before.write_text-end.ensures.0)
 
 same_length : tie.Need-shape_of-output
 same_length c = search rules
@@ -71,13 +71,13 @@ returns c =
     let second = last.before.before.before.before.before in
     let first = second.before.before.before.before in
     let word = first.before.before.before.before in
-    let a = word.before.before.before.before.before.args in
+    let a = word.before.before.before.before.before.before.before.args in
     let p = a.payload.now in
     let name = escape (part p a.at a.name.0) in
     let value = escape (part p a.start a.value.0) in
-    let one : Stored a.output.now a.to (ascii "pair") _ (a.to + 4) = first-stored word.write_bytes.ensures refl in
-    let two = then-stored (field name) one first.write_text-next.ensures.1 first.write_text-next.ensures.0 in
-    let three = then-stored (field value) two second.write_text-end.ensures.1 second.write_text-end.ensures.0 in
+    let one : Stored a.output.now a.to (ascii "pair") _ (a.to + 4) = first-stored word.before.write_bytes.ensures refl in
+    let two = then-stored (field name) one first.before.write_text-next.ensures.1 first.before.write_text-next.ensures.0 in
+    let three = then-stored (field value) two second.before.write_text-end.ensures.1 second.before.write_text-end.ensures.0 in
     let all = then-stored end three last.write_bytes-2.ensures refl in
     let is = is-line p a.at a.name.0 a.start a.value.0 in
     (all.ends ∙ ap (λ (l : List ℕ). a.to + length l) (sym is), all.is ∙ ap (sets a.output.now a.to) (sym is))

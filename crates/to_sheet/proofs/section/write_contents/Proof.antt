@@ -47,35 +47,35 @@ plain_lines p at = ap (λ (l : List ℕ). l ++ entry_lines p (content_at p) (u32
 -- the lines, with the numbers that were read
 as_read :
     (r : tie.After-read_u32-count) →
-    (let a = r.before.before.before.before.before.before.before.before.before.before.before.before.before.before.before.before.before.before.before.before.before.before.args in
+    (let a = r.before.before.before.before.before.before.before.before.before.before.before.before.before.before.before.before.before.before.before.before.before.before.before.args in
     let p = a.payload.now in
-    flat_map line (contents_records p (compression_at p a.at) a.at) ≡ head r.before.before.before.before.before.before.before.before.before.before.read_u32-field.result ++ entry_lines p (content_at p) r.read_u32-count.result (a.at + 28))
+    flat_map line (contents_records p (compression_at p a.at) a.at) ≡ head r.before.before.before.before.before.before.before.before.before.before.before.read_u32-field.result ++ entry_lines p (content_at p) r.read_u32-count.result (a.at + 28))
 as_read r =
-    let a = r.before.before.before.before.before.before.before.before.before.before.before.before.before.before.before.before.before.before.before.before.before.before.args in
-    rw (compression-told r.before.before.before.before.before.before.before.before.before.before.before.before.before.before.before.before.before.before None r.before.before.before.before.before.before.before.before.before.before.before.before.before.before.before.before.in-None.is, r.before.before.before.before.before.before.before.before.before.before.read_u32-field.ensures, r.read_u32-count.ensures) (plain_lines a.payload.now a.at)
+    let a = r.before.before.before.before.before.before.before.before.before.before.before.before.before.before.before.before.before.before.before.before.before.before.before.args in
+    rw (compression-told r.before.before.before.before.before.before.before.before.before.before.before.before.before.before.before.before.before.before.before None r.before.before.before.before.before.before.before.before.before.before.before.before.before.before.before.before.before.before.in-None.is, r.before.before.before.before.before.before.before.before.before.before.before.read_u32-field.ensures, r.read_u32-count.ensures) (plain_lines a.payload.now a.at)
 
 -- they fit a sheet
 fits :
     (r : tie.After-read_u32-count) →
-    (let a = r.before.before.before.before.before.before.before.before.before.before.before.before.before.before.before.before.before.before.before.before.before.before.args in
-    a.to + (8 + length (field (decimal r.before.before.before.before.before.before.before.before.before.before.read_u32-field.result)) + 1) + length (entry_lines a.payload.now (content_at a.payload.now) r.read_u32-count.result (a.at + 28)) ≤ sheet_limit)
+    (let a = r.before.before.before.before.before.before.before.before.before.before.before.before.before.before.before.before.before.before.before.before.before.before.before.args in
+    a.to + (8 + length (field (decimal r.before.before.before.before.before.before.before.before.before.before.before.read_u32-field.result)) + 1) + length (entry_lines a.payload.now (content_at a.payload.now) r.read_u32-count.result (a.at + 28)) ≤ sheet_limit)
 fits r =
-    let s = r.before.before.before.before.before.before.before.before.before.before.before.before.before.before.before.before.before.before.before.before.before.before in
-    let a = s.args in
-    let header = r.before.before.before.before.before.before.before.before.before.before.read_u32-field.result in
+    let s = r.before.before.before.before.before.before.before.before.before.before.before.before.before.before.before.before.before.before.before.before.before in
+    let a = s.before.before.args in
+    let header = r.before.before.before.before.before.before.before.before.before.before.before.read_u32-field.result in
     let rest = entry_lines a.payload.now (content_at a.payload.now) r.read_u32-count.result (a.at + 28) in
-    omega (arith, s.requires.1.1, ap length (as_read r), length-append (head header) rest, head-long header)
+    omega (arith, s.before.before.requires.1.1, ap length (as_read r), length-append (head header) rest, head-long header)
 
 -- the entries end within the section
 within :
     (r : tie.After-read_u32-count) →
-    (let a = r.before.before.before.before.before.before.before.before.before.before.before.before.before.before.before.before.before.before.before.before.before.before.args in
+    (let a = r.before.before.before.before.before.before.before.before.before.before.before.before.before.before.before.before.before.before.before.before.before.before.before.args in
     entries_end a.payload.now r.read_u32-count.result (a.at + 28) ≤ a.at + u32_at a.payload.now a.at)
 within r =
-    let s = r.before.before.before.before.before.before.before.before.before.before.before.before.before.before.before.before.before.before.before.before.before.before in
-    let a = s.args in
-    let whole = is-good _ s.requires.0 in
-    rw r.read_u32-count.ensures (contents-within a.payload.now a.at _ whole.0 whole.1 (compression-told r.before.before.before.before.before.before.before.before.before.before.before.before.before.before.before.before.before.before None r.before.before.before.before.before.before.before.before.before.before.before.before.before.before.before.before.in-None.is))
+    let s = r.before.before.before.before.before.before.before.before.before.before.before.before.before.before.before.before.before.before.before.before.before in
+    let a = s.before.before.args in
+    let whole = is-good _ s.before.before.requires.0 in
+    rw r.read_u32-count.ensures (contents-within a.payload.now a.at _ whole.0 whole.1 (compression-told r.before.before.before.before.before.before.before.before.before.before.before.before.before.before.before.before.before.before.before None r.before.before.before.before.before.before.before.before.before.before.before.before.before.before.before.before.before.before.in-None.is))
 
 -- ---- packed contents
 
@@ -85,12 +85,12 @@ packed-lines p at = append-nil (line (packed_at p at))
 
 packed-read :
     (c : tie.In-Zlib) →
-    (let a = c.before.before.before.before.before.before.args in
+    (let a = c.before.before.before.before.before.args in
     let p = a.payload.now in
     flat_map line (contents_records p (compression_at p a.at) a.at) ≡ line (packed_at p a.at))
 packed-read c =
-    let a = c.before.before.before.before.before.before.args in
-    rw (compression-told c.before.before Zlib c.in-Zlib.is) (packed-lines a.payload.now a.at)
+    let a = c.before.before.before.before.before.args in
+    rw (compression-told c.before Zlib c.in-Zlib.is) (packed-lines a.payload.now a.at)
 
 -- ---- the contract
 
@@ -137,13 +137,13 @@ add_start : tie.Need-overflow_add-start
 add_start c = search rules
 
 add-write-entries : tie.Need-overflow_add-end
-add-write-entries c = omega (arith, fits c.before, c.before.before.before.before.before.before.before.before.before.write_number-end.ensures.0)
+add-write-entries c = omega (arith, fits c.before, c.before.before.before.before.before.before.before.before.before.before.write_number-end.ensures.0)
 
 write-entries-requires : tie.Need-write_entries-requires
 write-entries-requires c κs =
     let r = c.before in
-    let s = r.before.before.before.before.before.before.before.before.before.before.before.before.before.before.before.before.before.before.before.before.before.before in
-    (omega (arith, within r, s.requires.1.0), omega (arith, fits r, r.before.before.before.before.before.before.before.before.write_number-end.ensures.0))
+    let s = r.before.before.before.before.before.before.before.before.before.before.before.before.before.before.before.before.before.before.before.before.before in
+    (omega (arith, within r, s.before.before.requires.1.0), omega (arith, fits r, r.before.before.before.before.before.before.before.before.before.write_number-end.ensures.0))
 
 enum-told-2 : tie.Need-enum_told-in-Zlib
 enum-told-2 c = search rules
@@ -151,7 +151,7 @@ enum-told-2 c = search rules
 write-packed-requires : tie.Need-write_packed-requires
 write-packed-requires c κs =
     let told = c.before in
-    let s = told.before.before.before.before.before.before in
+    let s = told.before.before.before.before.before in
     (omega (arith, s.requires.1.0), rw (← packed-read told) s.requires.1.1)
 
 same_length : tie.Need-shape_of-output-in-None
@@ -165,10 +165,10 @@ returns c =
     let newline = r.before.before.before in
     let number = r.before.before.before.before.before.before.before.before in
     let word = r.before.before.before.before.before.before.before.before.before.before.before.before.before in
-    let a = r.before.before.before.before.before.before.before.before.before.before.before.before.before.before.before.before.before.before.before.before.before.before.args in
+    let a = r.before.before.before.before.before.before.before.before.before.before.before.before.before.before.before.before.before.before.before.before.before.before.before.args in
     let p = a.payload.now in
-    let one : Stored a.output.now a.to (ascii "contents") _ (a.to + 8) = first-stored word.write_bytes.ensures refl in
-    let two = then-stored (field (decimal r.before.before.before.before.before.before.before.before.before.before.read_u32-field.result)) one number.write_number-end.ensures.1 number.write_number-end.ensures.0 in
+    let one : Stored a.output.now a.to (ascii "contents") _ (a.to + 8) = first-stored word.before.write_bytes.ensures refl in
+    let two = then-stored (field (decimal r.before.before.before.before.before.before.before.before.before.before.before.read_u32-field.result)) one number.before.write_number-end.ensures.1 number.before.write_number-end.ensures.0 in
     let three = then-stored end two newline.write_bytes-in-None.ensures refl in
     let all = then-stored (entry_lines p (content_at p) r.read_u32-count.result (a.at + 28)) three w.write_entries.ensures.1 w.write_entries.ensures.0 in
     let is = as_read r in

@@ -37,21 +37,21 @@ long header count uncompressed bytes = simp length-append
 -- the numbers that were read are those of the line
 as_read :
     (r : tie.After-read_u32-size) →
-    (let a = r.before.before.before.before.before.before.before.before.before.before.before.args in
+    (let a = r.before.before.before.before.before.before.before.before.before.before.before.before.args in
     line (packed_at a.payload.now a.at) ≡ pieces r.before.before.before.read_u32-field.result r.before.before.read_u32-count.result r.before.read_u32-uncompressed.result (part a.payload.now (a.at + 28) r.read_u32-size.result))
 as_read r =
-    let a = r.before.before.before.before.before.before.before.before.before.before.before.args in
+    let a = r.before.before.before.before.before.before.before.before.before.before.before.before.args in
     rw (r.before.before.before.read_u32-field.ensures, r.before.before.read_u32-count.ensures, r.before.read_u32-uncompressed.ensures, r.read_u32-size.ensures) (is-line a.payload.now a.at)
 
 -- and so it fits a sheet
 fits :
     (r : tie.After-read_u32-size) →
-    (let a = r.before.before.before.before.before.before.before.before.before.before.before.args in
+    (let a = r.before.before.before.before.before.before.before.before.before.before.before.before.args in
     a.to + (6 + length (field (decimal r.before.before.before.read_u32-field.result)) + length (field (decimal r.before.before.read_u32-count.result)) + length (field (decimal r.before.read_u32-uncompressed.result)) + length (field (hex_pairs (part a.payload.now (a.at + 28) r.read_u32-size.result))) + 1) ≤ sheet_limit)
 fits r =
     let s = r.before.before.before.before.before.before.before.before.before.before.before in
-    let a = s.args in
-    rw (← long r.before.before.before.read_u32-field.result r.before.before.read_u32-count.result r.before.read_u32-uncompressed.result (part a.payload.now (a.at + 28) r.read_u32-size.result), ← as_read r) s.requires.1
+    let a = s.before.args in
+    rw (← long r.before.before.before.read_u32-field.result r.before.before.read_u32-count.result r.before.read_u32-uncompressed.result (part a.payload.now (a.at + 28) r.read_u32-size.result), ← as_read r) s.before.requires.1
 
 write-bytes-requires : tie.Need-write_bytes-requires
 write-bytes-requires c κs = search rules
@@ -126,7 +126,7 @@ add-result c =
     let third = hex.before.before.before.before in
     let second = third.before.before.before.before in
     let first = second.before.before.before.before in
-    omega (arith, fits first.before.before, first.write_number-first.ensures.0, second.write_number-second.ensures.0, third.write_number-third.ensures.0, hex.write_hex-end.ensures.0)
+    omega (arith, fits first.before.before.before, first.before.write_number-first.ensures.0, second.before.write_number-second.ensures.0, third.before.write_number-third.ensures.0, hex.before.write_hex-end.ensures.0)
 
 same_length : tie.Need-shape_of-output
 same_length c = search rules
@@ -141,14 +141,14 @@ returns c =
     let first = second.before.before.before.before in
     let read = first.before.before in
     let word = read.before.before.before.before.before.before in
-    let a = word.before.before.before.before.before.args in
-    let one : Stored a.output.now a.to (ascii "packed") _ (a.to + 6) = first-stored word.write_bytes.ensures refl in
-    let two = then-stored (field (decimal read.before.before.before.read_u32-field.result)) one first.write_number-first.ensures.1 first.write_number-first.ensures.0 in
-    let three = then-stored (field (decimal read.before.before.read_u32-count.result)) two second.write_number-second.ensures.1 second.write_number-second.ensures.0 in
-    let four = then-stored (field (decimal read.before.read_u32-uncompressed.result)) three third.write_number-third.ensures.1 third.write_number-third.ensures.0 in
-    let five = then-stored (field (hex_pairs (part a.payload.now (a.at + 28) read.read_u32-size.result))) four hex.write_hex-end.ensures.1 hex.write_hex-end.ensures.0 in
+    let a = word.before.before.before.before.before.before.before.args in
+    let one : Stored a.output.now a.to (ascii "packed") _ (a.to + 6) = first-stored word.before.write_bytes.ensures refl in
+    let two = then-stored (field (decimal read.before.before.before.before.read_u32-field.result)) one first.before.write_number-first.ensures.1 first.before.write_number-first.ensures.0 in
+    let three = then-stored (field (decimal read.before.before.before.read_u32-count.result)) two second.before.write_number-second.ensures.1 second.before.write_number-second.ensures.0 in
+    let four = then-stored (field (decimal read.before.before.read_u32-uncompressed.result)) three third.before.write_number-third.ensures.1 third.before.write_number-third.ensures.0 in
+    let five = then-stored (field (hex_pairs (part a.payload.now (a.at + 28) read.before.read_u32-size.result))) four hex.before.write_hex-end.ensures.1 hex.before.write_hex-end.ensures.0 in
     let all = then-stored end five last.write_bytes-2.ensures refl in
-    let is = as_read read in
+    let is = as_read read.before in
     (all.ends ∙ ap (λ (l : List ℕ). a.to + length l) (sym is), all.is ∙ ap (sets a.output.now a.to) (sym is))
 
 pub write_packed_spec : {M : Type 1} → statement M

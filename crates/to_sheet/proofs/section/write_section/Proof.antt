@@ -49,7 +49,7 @@ names-read :
     flat_map line (section_records p a.kind a.at) ≡ ascii "names\n" ++ entry_lines p (name_at p) r.read_u32-count.result (a.at + 18))
 names-read r =
     let a = r.before.before.before.before.before.before.before.before.before.before.args in
-    rw (r.before.before.before.before.before.before.in-SourceNames.is, r.read_u32-count.ensures) (names-lines a.payload.now a.at)
+    rw (r.before.before.before.before.before.before.before.in-SourceNames.is, r.read_u32-count.ensures) (names-lines a.payload.now a.at)
 
 arguments-read :
     (r : tie.After-read_u32-count-in-Arguments) →
@@ -58,7 +58,7 @@ arguments-read :
     flat_map line (section_records p a.kind a.at) ≡ ascii "arguments\n" ++ pair_lines p r.read_u32-count-in-Arguments.result (a.at + 20))
 arguments-read r =
     let a = r.before.before.before.before.before.before.before.before.before.before.args in
-    rw (r.before.before.before.before.before.before.in-Arguments.is, r.read_u32-count-in-Arguments.ensures) (arguments-lines a.payload.now a.at)
+    rw (r.before.before.before.before.before.before.before.in-Arguments.is, r.read_u32-count-in-Arguments.ensures) (arguments-lines a.payload.now a.at)
 
 -- the entries of names end within the section, and arguments have their headers
 names-within :
@@ -66,9 +66,9 @@ names-within :
     (let a = r.before.before.before.before.before.before.before.before.before.before.args in entries_end a.payload.now r.read_u32-count.result (a.at + 18) ≤ a.at + u32_at a.payload.now a.at)
 unfolding parse_section
 names-within r =
-    let s = r.before.before.before.before.before.before.before.before.before.before in
-    let a = s.args in
-    let whole = is-good _ (rw r.before.before.before.before.before.before.in-SourceNames.is at s.requires.0) in
+    let s = r.before.before.before.before.before.before.before.before.before in
+    let a = s.before.args in
+    let whole = is-good _ (rw r.before.before.before.before.before.before.before.in-SourceNames.is at s.before.requires.0) in
     rw r.read_u32-count.ensures (names-walk a.payload.now a.at (u32_at a.payload.now a.at) whole.0 whole.1).1
 
 arguments-within :
@@ -76,10 +76,10 @@ arguments-within :
     (let a = r.before.before.before.before.before.before.before.before.before.before.args in a.at + 20 ≤ a.at + u32_at a.payload.now a.at)
 unfolding parse_section
 arguments-within r =
-    let s = r.before.before.before.before.before.before.before.before.before.before in
-    let a = s.args in
+    let s = r.before.before.before.before.before.before.before.before.before in
+    let a = s.before.args in
     let p = a.payload.now in
-    let whole = is-good _ (rw r.before.before.before.before.before.before.in-Arguments.is at s.requires.0) in
+    let whole = is-good _ (rw r.before.before.before.before.before.before.before.in-Arguments.is at s.before.requires.0) in
     omega (arith, (arguments-walk p a.at (u32_at p a.at) whole.0 whole.1).1, pairs-forward p (u32_at p (a.at + 16)) (a.at + 20))
 
 -- ---- the contract
@@ -91,7 +91,7 @@ write-contents-requires : tie.Need-write_contents-requires
 unfolding parse_section section_records
 write-contents-requires c κs =
     let told = c.before in
-    let s = told.before.before.before.before in
+    let s = told.before.before.before in
     let is = told.in-SourceContents.is in
     (rw is at s.requires.0, (omega (arith, s.requires.1.0, s.requires.1.1.0), rw is at s.requires.1.1.1))
 
@@ -117,10 +117,10 @@ write-entries-requires : tie.Need-write_entries-requires
 unfolding ascii
 write-entries-requires c κs =
     let r = c.before in
-    let s = r.before.before.before.before.before.before.before.before.before.before in
-    let a = s.args in
+    let s = r.before.before.before.before.before.before.before.before.before in
+    let a = s.before.args in
     let rest = entry_lines a.payload.now (name_at a.payload.now) r.read_u32-count.result (a.at + 18) in
-    (omega (arith, names-within r, s.requires.1.0, s.requires.1.1.0), omega (arith, s.requires.1.1.1, ap length (names-read r), length-append (ascii "names\n") rest))
+    (omega (arith, names-within r, s.before.requires.1.0, s.before.requires.1.1.0), omega (arith, s.before.requires.1.1.1, ap length (names-read r), length-append (ascii "names\n") rest))
 
 enum-told-3 : tie.Need-enum_told-in-Arguments
 enum-told-3 c = search rules
@@ -144,18 +144,18 @@ write-pairs-requires : tie.Need-write_pairs-requires
 unfolding ascii
 write-pairs-requires c κs =
     let r = c.before in
-    let s = r.before.before.before.before.before.before.before.before.before.before in
-    let a = s.args in
+    let s = r.before.before.before.before.before.before.before.before.before in
+    let a = s.before.args in
     let rest = pair_lines a.payload.now r.read_u32-count-in-Arguments.result (a.at + 20) in
-    (omega (arith, arguments-within r, s.requires.1.0, s.requires.1.1.0), (omega (arith, s.requires.1.1.0), omega (arith, s.requires.1.1.1, ap length (arguments-read r), length-append (ascii "arguments\n") rest)))
+    (omega (arith, arguments-within r, s.before.requires.1.0, s.before.requires.1.1.0), (omega (arith, s.before.requires.1.1.0), omega (arith, s.before.requires.1.1.1, ap length (arguments-read r), length-append (ascii "arguments\n") rest)))
 
 enum-known-kind : tie.Need-enum_known-kind
 enum-known-kind c = search rules
 
 write-unknown-requires : tie.Need-write_unknown-requires
 write-unknown-requires c κs =
-    let k = c.before.before in
-    let s = k.before.before.before.before in
+    let k = c.before in
+    let s = k.before.before.before in
     (omega (arith, s.requires.1.0, s.requires.1.1.0), rw (← unknown-lines s.args.payload.now _ s.args.at, ← k.in-Unknown.is) s.requires.1.1.1)
 
 same_length : tie.Need-shape_of-output-in-SourceContents
@@ -205,8 +205,8 @@ same-length-4 c = search rules
 returns-4 : tie.Need-returns-in-Unknown
 returns-4 c =
     let w = c.before.before in
-    let k = w.before.before.before in
-    let a = k.before.before.before.before.args in
+    let k = w.before.before in
+    let a = k.before.before.before.args in
     rw (k.in-Unknown.is, unknown-lines a.payload.now _ a.at) w.write_unknown.ensures
 
 pub write_section_spec : {M : Type 1} → statement M

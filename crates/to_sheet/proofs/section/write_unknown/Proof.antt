@@ -37,15 +37,15 @@ read-u32-requires c κs = search rules
 told :
     (h : tie.After-write_hex-end) →
     (let number = h.before.before.before.before in
-    let a = number.before.before.before.before.before.before.before.before.before.before.before.args in
+    let a = number.before.before.before.before.before.before.before.before.before.before.before.before.args in
     let bytes = field (hex_pairs (part a.payload.now (a.at + 8) (u32_at a.payload.now a.at - 8))) in
     (h.write_hex-end.result ≡ number.write_number-next.result + length bytes) × (h.write_hex-end.new.0 ≡ sets number.write_number-next.new.0 number.write_number-next.result bytes))
 told h =
     let number = h.before.before.before.before in
     let read = number.before.before.before.before.before.before.before.before in
     let body = number.before.before.before.before.before.before.before in
-    let a = number.before.before.before.before.before.before.before.before.before.before.before.args in
-    let size : body.body_size-bytes.result ≡ u32_at a.payload.now a.at - 8 = body.body_size-bytes.ensures ∙ ap (λ (k : ℕ). k - 8) read.read_u32.ensures in
+    let a = number.before.before.before.before.before.before.before.before.before.before.before.before.args in
+    let size : body.before.body_size-bytes.result ≡ u32_at a.payload.now a.at - 8 = body.before.body_size-bytes.ensures ∙ ap (λ (k : ℕ). k - 8) read.before.read_u32.ensures in
     let bytes : ℕ → List ℕ = λ k. field (hex_pairs (part a.payload.now (a.at + 8) k)) in (
       h.write_hex-end.ensures.0 ∙ ap (λ (k : ℕ). number.write_number-next.result + length (bytes k)) size,
       h.write_hex-end.ensures.1 ∙ ap (λ (k : ℕ). sets number.write_number-next.new.0 number.write_number-next.result (bytes k)) size,
@@ -70,8 +70,8 @@ cast-write-hex : tie.Need-overflow_cast-next
 cast-write-hex c =
     let number = c.before.before.before in
     let s = number.before.before.before.before.before.before.before.before.before.before.before in
-    let a = s.args in
-    omega (arith, s.requires.1, long a.payload.now a.kind a.at, number.write_number-next.ensures.0)
+    let a = s.before.args in
+    omega (arith, s.before.requires.1, long a.payload.now a.kind a.at, number.write_number-next.ensures.0)
 
 add-write-hex : tie.Need-overflow_add-at
 add-write-hex c = search rules
@@ -87,8 +87,8 @@ add-result c =
     let hex = c.before.before.before.before.before.before.before in
     let number = hex.before.before.before.before in
     let s = number.before.before.before.before.before.before.before.before.before.before.before in
-    let a = s.args in
-    omega (arith, s.requires.1, long a.payload.now a.kind a.at, number.write_number-next.ensures.0, (told hex).0)
+    let a = s.before.before.args in
+    omega (arith, s.before.before.requires.1, long a.payload.now a.kind a.at, number.before.write_number-next.ensures.0, (told hex.before).0)
 
 same_length : tie.Need-shape_of-output
 same_length c = search rules
@@ -100,12 +100,12 @@ returns c =
     let hex = last.before.before.before.before.before in
     let number = hex.before.before.before.before in
     let word = number.before.before.before.before in
-    let a = word.before.before.before.before.before.before.before.args in
+    let a = word.before.before.before.before.before.before.before.before.before.args in
     let p = a.payload.now in
     let bytes = hex_pairs (part p (a.at + 8) (u32_at p a.at - 8)) in
-    let one : Stored a.output.now a.to (ascii "unknown") _ (a.to + 7) = first-stored word.write_bytes.ensures refl in
-    let two = then-stored (field (decimal a.kind)) one number.write_number-next.ensures.1 number.write_number-next.ensures.0 in
-    let three = then-stored (field bytes) two (told hex).1 (told hex).0 in
+    let one : Stored a.output.now a.to (ascii "unknown") _ (a.to + 7) = first-stored word.before.write_bytes.ensures refl in
+    let two = then-stored (field (decimal a.kind)) one number.before.write_number-next.ensures.1 number.before.write_number-next.ensures.0 in
+    let three = then-stored (field bytes) two (told hex.before).1 (told hex.before).0 in
     let all = then-stored end three last.write_bytes-2.ensures refl in
     let is = is-line p a.kind a.at in
     (all.ends ∙ ap (λ (l : List ℕ). a.to + length l) (sym is), all.is ∙ ap (sets a.output.now a.to) (sym is))

@@ -16,8 +16,8 @@ enum_told c = search rules
 write-content-requires : tie.Need-write_content-requires
 unfolding row_bytes
 write-content-requires c κs =
-    let text = c.before.before.before.text_of-text in
-    let start = c.before.before.before.before.before.before.before in
+    let text = c.before.before.text_of-text in
+    let start = c.before.before.before.before.before.before in
     rw text.ensures (rw c.before.in-Content.is at start.requires)
 
 enum-told-2 : tie.Need-enum_told-in-Name
@@ -26,8 +26,8 @@ enum-told-2 c = search rules
 write-name-requires : tie.Need-write_name-requires
 unfolding row_bytes
 write-name-requires c κs =
-    let text = c.before.before.before.text_of-text in
-    let start = c.before.before.before.before.before.before.before in
+    let text = c.before.before.text_of-text in
+    let start = c.before.before.before.before.before.before in
     rw text.ensures (rw c.before.in-Name.is at start.requires)
 
 enum-told-3 : tie.Need-enum_told-in-Pair
@@ -39,8 +39,8 @@ text-of-requires-2 c κs = search rules
 write-pair-requires : tie.Need-write_pair-requires
 unfolding row_bytes
 write-pair-requires c κs =
-    let text = c.before.before.before.before.text_of-text in
-    let start = c.before.before.before.before.before.before.before.before in
+    let text = c.before.before.before.text_of-text in
+    let start = c.before.before.before.before.before.before.before in
     rw (text.ensures, c.before.text_of-value.ensures) (rw c.before.before.in-Pair.is at start.requires)
 
 enum-told-4 : tie.Need-enum_told-in-PlainContents
@@ -68,7 +68,7 @@ returns : tie.Need-returns-in-Content
 unfolding row_bytes
 returns c =
     let w = c.before.before in
-    rw (w.before.before.in-Content.is, ← w.before.before.before.before.text_of-text.ensures) w.write_content.ensures
+    rw (w.before.before.in-Content.is, ← w.before.before.before.text_of-text.ensures) w.write_content.ensures
 
 same-length-2 : tie.Need-shape_of-output-in-Name
 same-length-2 c = search rules
@@ -77,7 +77,7 @@ returns-2 : tie.Need-returns-in-Name
 unfolding row_bytes
 returns-2 c =
     let w = c.before.before in
-    rw (w.before.before.in-Name.is, ← w.before.before.before.before.text_of-text.ensures) w.write_name.ensures
+    rw (w.before.before.in-Name.is, ← w.before.before.before.text_of-text.ensures) w.write_name.ensures
 
 same-length-3 : tie.Need-shape_of-output-in-Pair
 same-length-3 c = search rules
@@ -86,7 +86,7 @@ returns-3 : tie.Need-returns-in-Pair
 unfolding row_bytes
 returns-3 c =
     let w = c.before.before in
-    rw (w.before.before.before.in-Pair.is, ← w.before.before.before.before.before.text_of-text.ensures, ← w.before.before.text_of-value.ensures) w.write_pair.ensures
+    rw (w.before.before.before.in-Pair.is, ← w.before.before.before.before.text_of-text.ensures, ← w.before.before.text_of-value.ensures) w.write_pair.ensures
 
 returns-4 : tie.Need-returns-in-PlainContents
 unfolding row_bytes
