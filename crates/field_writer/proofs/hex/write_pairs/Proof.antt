@@ -57,10 +57,10 @@ loop-again c =
     let i = w.before.before.before.before.before in
     let a = i.before.before.before.before.args in
     let n = i.loop-i.i in
-    let stored : w.write_u16.new.0 ≡ sets i.loop-i.output (a.at + 2 * n) (hex_pair (get_or a.bytes.now n 0)) = cc in (
+    let stored : w.write_u16.new.output ≡ sets i.loop-i.output (a.at + 2 * n) (hex_pair (get_or a.bytes.now n 0)) = cc in (
       omega arith,
       left-next (hex_pair (get_or a.bytes.now n 0)) (hex_pairs (drop (n + 1) a.bytes.now)) (pairs_next a.bytes.now n (omega arith)) i.loop-i.invariant.1 (omega arith) stored,
-      w.write_u16.auto.0 ∙ i.loop-i.invariant.2,
+      w.write_u16.auto.output ∙ i.loop-i.invariant.2,
     )
 
 same_length : tie.Need-shape_of-output invariant-loop decreases-loop

@@ -68,11 +68,11 @@ loop-again c =
     let told = w.before.before.before in
     let is : told.letter-second.result ≡ letter_of b = cc in
     let bytes : bytes_of 2 (92 + 256 * told.letter-second.result) ≡ escaped b = rw is (two_bytes 92 (letter_of b) (omega arith) l.small ∙ sym (l.some second)) in
-    let stored : w.write_u16.new.0 ≡ sets i.loop-i.output i.loop-i.to (escaped b) = w.write_u16.ensures ∙ ap (sets i.loop-i.output i.loop-i.to) bytes in (
+    let stored : w.write_u16.new.output ≡ sets i.loop-i.output i.loop-i.to (escaped b) = w.write_u16.ensures ∙ ap (sets i.loop-i.output i.loop-i.to) bytes in (
       omega arith,
       omega arith,
       left-next (escaped b) (escape (drop (n + 1) a.text.now)) (escape-next a.text.now n (omega arith)) i.loop-i.invariant.2 (omega (arith, ap length (l.some second))) stored,
-      w.write_u16.auto.0 ∙ i.loop-i.invariant.3,
+      w.write_u16.auto.output ∙ i.loop-i.invariant.3,
     )
 
 sub-find-any : tie.Need-slice_bounds-find_any-count invariant-loop decreases-loop

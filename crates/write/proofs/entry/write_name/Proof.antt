@@ -30,7 +30,7 @@ add-close-name c = search rules
 cast-close-name-2 : tie.Need-overflow_cast-start
 cast-close-name-2 c =
     let a = c.before.before.before.before.before.before.before.args in
-    let n = name a.text.now a.content-size in
+    let n = name a.text.now a.content_size in
     omega (arith, length-name_entry n, le-aligned (16 + wire_size (length n.text)))
 
 close-name-requires : tie.Need-close_name-requires
@@ -44,7 +44,7 @@ returns c =
     let closed = c.before.before in
     let w = closed.before.before.before.before in
     let a = w.before.before.before.before.args in
-    let s = a.content-size in
+    let s = a.content_size in
     let n = name a.text.now s in (
       closed.close_name.ensures.0 ∙ ap (λ (m : ℕ). a.at + m) (entry-size 16 (u32 s) (name-header s) n.text a.at refl ∙ ap length (sym (name-is n))),
       rw (closed.close_name.ensures.1, w.write_bytes.ensures) (name-closed a.output.now a.at n refl),

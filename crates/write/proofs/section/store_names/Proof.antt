@@ -43,10 +43,10 @@ module _ (c : tie.After-write_run-arg-1) where
   bytes = run_bytes payload edit Name rest
 
   parts : Names payload edit rows p.index
-  parts = names-parts payload edit rows p.index s.pre.1
+  parts = names-parts payload edit rows p.index s.requires.1
 
   small : p.at + 18 + length bytes ≤ limit
-  small = within parts p.at refl s.pre.4
+  small = within parts p.at refl s.requires.4
 
 add-first : tie.Need-overflow_add-first
 add-first c = omega (arith, length-rows_of c.before.before.before.before.before.args.rows.now)

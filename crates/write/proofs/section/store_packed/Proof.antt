@@ -34,7 +34,7 @@ module _ (c : tie.After-bytes_of-stream) where
   p = s.args.position
 
   parts : Packed payload edit rows p.index
-  parts = packed-parts payload edit rows p.index s.pre.1
+  parts = packed-parts payload edit rows p.index s.requires.1
 
   bytes : c.bytes_of-stream.result.now ≡ own payload edit rows p.index
   bytes = rw c.before.before.load-row.ensures at c.bytes_of-stream.ensures
@@ -43,7 +43,7 @@ module _ (c : tie.After-bytes_of-stream) where
   end = p.at + 28 + length c.bytes_of-stream.result.now
 
   small : end ≤ limit
-  small = within parts p.at (ap (λ (l : List ℕ). p.at + 28 + length l) bytes) s.pre.4
+  small = within parts p.at (ap (λ (l : List ℕ). p.at + 28 + length l) bytes) s.requires.4
 
 load-requires : tie.Need-load-row-requires
 load-requires c κs = search rules

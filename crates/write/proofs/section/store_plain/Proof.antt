@@ -43,10 +43,10 @@ module _ (c : tie.After-write_run-arg-1) where
   bytes = run_bytes payload edit Content rest
 
   parts : Plain payload edit rows p.index
-  parts = plain-parts payload edit rows p.index s.pre.1
+  parts = plain-parts payload edit rows p.index s.requires.1
 
   small : p.at + 28 + length bytes ≤ limit
-  small = within parts p.at refl s.pre.4
+  small = within parts p.at refl s.requires.4
 
 load-requires : tie.Need-load-row-requires
 load-requires c κs = search rules

@@ -35,7 +35,7 @@ module _ (c : tie.After-bytes_of-bytes) where
   p = s.args.position
 
   parts : Unknown payload edit rows p.index
-  parts = unknown-parts payload edit rows p.index s.pre.1
+  parts = unknown-parts payload edit rows p.index s.requires.1
 
   bytes : c.bytes_of-bytes.result.now ≡ own payload edit rows p.index
   bytes = rw c.before.before.load-row.ensures at c.bytes_of-bytes.ensures
@@ -44,7 +44,7 @@ module _ (c : tie.After-bytes_of-bytes) where
   end = p.at + 8 + length c.bytes_of-bytes.result.now
 
   small : end ≤ limit
-  small = within parts p.at (ap (λ (l : List ℕ). p.at + 8 + length l) bytes) s.pre.4
+  small = within parts p.at (ap (λ (l : List ℕ). p.at + 8 + length l) bytes) s.requires.4
 
 load-requires : tie.Need-load-row-requires
 load-requires c κs = search rules
