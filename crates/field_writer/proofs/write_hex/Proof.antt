@@ -41,7 +41,6 @@ write_hex_spec =
     tie.close
     (tie.spec
     (λ c. search rules)
-    (λ c. search rules)
     (λ c κs. search rules)
     (λ c κs. search rules)
     write-pairs-requires

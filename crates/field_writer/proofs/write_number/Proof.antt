@@ -24,7 +24,6 @@ pub write_number_spec : {M : Type 1} → statement M
 write_number_spec =
     tie.close
     (tie.spec
-    (λ c. search rules)
     (λ c κs. search rules)
     (λ c. search rules)
     (λ c κs. search rules)

@@ -33,7 +33,6 @@ pub write_text_spec : {M : Type 1} → statement M
 write_text_spec =
     tie.close
     (tie.spec
-    (λ c. search rules)
     (λ c κs. search rules)
     (λ c. search rules)
     (λ c κs. search rules)

@@ -86,7 +86,7 @@ loop-again c =
       omega arith,
       omega (arith, known-most (kind_at p at)),
       left-next (lines place (public_line_at p at)) _ (lines_next p a.count i.loop-done.done at place inside.loop-done-test.true) i.loop-done.invariant.4 told out,
-      w.write_shown-to.auto.1.1.1.1.0 ∙ i.loop-done.invariant.5,
+      w.write_shown-to.auto.output ∙ i.loop-done.invariant.5,
     )
 
 same_length : tie.Need-shape_of-output invariant-loop decreases-loop

@@ -135,7 +135,7 @@ loop-again-2 c =
       r.within,
       omega arith,
       left-next (take n (drop i.loop-i.i a.text.now)) _ r.is i.loop-i.invariant.2 (omega (arith, r.long)) (rw span at w.write_bytes.ensures),
-      w.write_bytes.auto.0 ∙ i.loop-i.invariant.3,
+      w.write_bytes.auto.output ∙ i.loop-i.invariant.3,
     )
 
 same_length : tie.Need-shape_of-output invariant-loop decreases-loop

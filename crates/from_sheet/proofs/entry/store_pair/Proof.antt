@@ -33,7 +33,7 @@ store-text-requires-2 c κs =
     let w = c.before.before.before in
     let start = w.before.before.before.before.before in
     let p = pair (unescape start.args.key.now) (unescape start.args.value.now) in (
-      omega (arith, w.store_text-next.ensures.0, w.store_text-next.auto.0, length-pair_entry p, start.requires.0),
+      omega (arith, w.store_text-next.ensures.0, w.store_text-next.auto.output, length-pair_entry p, start.requires.0),
       omega (arith, w.store_text-next.ensures.0, length-pair_entry p, start.requires.1),
     )
 

@@ -176,7 +176,7 @@ loop-again c =
       omega (arith, to, m.size, end),
       omega (arith, m.many, many),
       rw call.store_entry-to.ensures.1 (sets-joined this rest i.loop-at.output i.loop-at.to call.store_entry-to.result to ∙ rw m.bytes at same),
-      call.store_entry-to.auto.0 ∙ long,
+      call.store_entry-to.auto.output ∙ long,
     )
 
 -- ---- where it ends

@@ -89,7 +89,7 @@ loop-again c =
       omega (arith, counted, ap length all),
       omega (arith, ends, ends', ap length e, length-append x rest),
       rw (left, ends') (sym (sets-append x rest i.loop-position.output to) ∙ ap (sets i.loop-position.output to) (sym e) ∙ stored),
-      t.store_section-position.auto.1.0 ∙ same,
+      t.store_section-position.auto.output ∙ same,
     )
 
 same_length : tie.Need-shape_of-output invariant-loop decreases-loop

@@ -163,7 +163,7 @@ loop-again-2 c =
     let span : i.loop-i.i + n - i.loop-i.i ≡ n = omega arith in (
       r.within,
       left-next (take n (drop i.loop-i.i a.field.now)) _ r.is i.loop-i.invariant.1 (omega (arith, r.long)) (rw span at w.write_bytes.ensures),
-      w.write_bytes.auto.0 ∙ i.loop-i.invariant.2,
+      w.write_bytes.auto.output ∙ i.loop-i.invariant.2,
     )
 
 same_length : tie.Need-shape_of-output invariant-loop decreases-loop

@@ -70,7 +70,7 @@ loop-again c =
       omega (arith, c.read_u32.ensures),
       omega arith,
       left-next (line place (line_at p at)) _ (lines_next p a.count place at inside.loop-place-test.true) i.loop-place.invariant.3 told out,
-      w.write_line-to.auto.0 ∙ i.loop-place.invariant.4,
+      w.write_line-to.auto.output ∙ i.loop-place.invariant.4,
     )
 
 same_length : tie.Need-shape_of-output invariant-loop decreases-loop

@@ -47,7 +47,7 @@ loop-again c =
       omega arith,
       omega arith,
       left-next (content_entry []) _ (empties-next a.count i.loop-done.done inside.loop-done-test.true) i.loop-done.invariant.2 (omega (arith, length-empty)) w.write_empty.ensures,
-      w.write_empty.auto.0 ∙ i.loop-done.invariant.3,
+      w.write_empty.auto.output ∙ i.loop-done.invariant.3,
     )
 
 same_length : tie.Need-shape_of-output invariant-loop decreases-loop

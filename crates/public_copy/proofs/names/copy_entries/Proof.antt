@@ -122,7 +122,7 @@ loop-again c =
           (left-next (name_copy p at) _ (names-next p a.count i.loop-done.done r.before.loop-done-test.true at) i.loop-done.invariant.3
           (ap (λ k. next + k) (sym (name-long p at size t.least within refl)))
           (rw (u.write_u32.ensures, w.write_bytes.ensures, is, span) here)),
-      u.write_u32.auto.0 ∙ w.write_bytes.auto.0 ∙ i.loop-done.invariant.4,
+      u.write_u32.auto.output ∙ w.write_bytes.auto.output ∙ i.loop-done.invariant.4,
     )
 
 same_length : tie.Need-shape_of-output invariant-loop decreases-loop

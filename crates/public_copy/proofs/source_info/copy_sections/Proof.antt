@@ -129,7 +129,7 @@ loop-again c =
       omega (arith, known-most (kind_at p at)),
       omega (arith, copy-known p (kind_at p at) at, count_next p (copy_at p) a.count i.loop-done.done more at),
       left-next (joined (copy_at p at)) _ (copies-next p a.count i.loop-done.done at more) i.loop-done.invariant.6 next out,
-      w.copy_section-end.auto.1.1.1.0 ∙ i.loop-done.invariant.7,
+      w.copy_section-end.auto.output ∙ i.loop-done.invariant.7,
     )
 
 same_length : tie.Need-shape_of-output invariant-loop decreases-loop

@@ -84,7 +84,7 @@ loop-again c =
       omega arith,
       next c,
       cc (entries-store-step a.payload.now a.count i.loop-done.done turn.loop-done-test.true (entry_row a.payload.now a.kind) i.loop-done.at a.index i.loop-done.rows),
-      store.store.auto.1.0 ∙ i.loop-done.invariant.3,
+      store.store.auto.table ∙ i.loop-done.invariant.3,
     )
 
 same_length : tie.Need-shape_of-rows invariant-loop decreases-loop

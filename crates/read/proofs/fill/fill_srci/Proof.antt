@@ -111,7 +111,7 @@ loop-again c =
       told.rest,
       omega (arith, told.rows, section.fill_section-index.ensures.0),
       cc (sections-store-step p count i.loop-done.done inside.loop-done-test.true i.loop-done.at i.loop-done.index i.loop-done.rows),
-      section.fill_section-index.auto.1.1.0 ∙ i.loop-done.invariant.4,
+      section.fill_section-index.auto.rows ∙ i.loop-done.invariant.4,
     )
 
 same_length : tie.Need-shape_of-rows invariant-loop decreases-loop

@@ -92,7 +92,7 @@ loop-again c =
       omega arith,
       t.after,
       left-next (line (entry_at p a.kind i.loop-done.at)) _ (entries_next p (entry_at p a.kind) a.count i.loop-done.done inside.loop-done-test.true i.loop-done.at) i.loop-done.invariant.2 w.write_entry-next.ensures.0 w.write_entry-next.ensures.1,
-      w.write_entry-next.auto.1.1.1.0 ∙ i.loop-done.invariant.3,
+      w.write_entry-next.auto.output ∙ i.loop-done.invariant.3,
     )
 
 same_length : tie.Need-shape_of-output invariant-loop decreases-loop

@@ -151,7 +151,7 @@ loop-again c =
       omega arith,
       omega (arith, small inside),
       left-next here _ (pairs_next p a.count i.loop-done.done inside.loop-done-test.true at) i.loop-done.invariant.2 stored.0 stored.1,
-      w.write_pair-next.auto.1.1.1.1.1.0 ∙ i.loop-done.invariant.3,
+      w.write_pair-next.auto.output ∙ i.loop-done.invariant.3,
     )
 
 same_length : tie.Need-shape_of-output invariant-loop decreases-loop

@@ -125,7 +125,7 @@ loop-again c =
       t.rest,
       t.within,
       left-next (flat_map line (records_at p at)) _ (sections-next p a.count i.loop-done.done inside.loop-done-test.true at) i.loop-done.invariant.3 next out,
-      w.write_section-to.auto.1.1.1.0 ∙ i.loop-done.invariant.4,
+      w.write_section-to.auto.output ∙ i.loop-done.invariant.4,
     )
 
 same_length : tie.Need-shape_of-output invariant-loop decreases-loop

@@ -109,7 +109,7 @@ loop-again c =
       omega (arith, ap length (more turn)),
       omega (arith, simp length-append at (ap length (bytes turn))),
       cc (bytes turn, sets-append (row_bytes p e a.tag r) rest i.loop-index.output i.loop-index.at),
-      call.write_row-at.auto.1.1.1.1.0 ∙ i.loop-index.invariant.4,
+      call.write_row-at.auto.output ∙ i.loop-index.invariant.4,
     )
 
 -- where no row of the tag is left, all is stored
