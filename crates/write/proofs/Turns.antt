@@ -2,11 +2,10 @@
 -- after each turn, and where no row is left it says the whole.
 -- Assumes nothing.
 use Prim.Native.Nat.{ℕ, ◌+◌, ◌-◌, ◌/◌, ◌≤◌, ◌<◌, ◌^◌}
-use mathlib.Core.Bool.{true, not}
+use mathlib.Core.Bool.{true}
 use mathlib.Core.List.{List, [], flat_map}
 use mathlib.Core.Path.{◌≡◌, refl, sym, ap, ◌∙◌}
 use native.Mathlib.Omega.{arith}
-use lib.Dec.{T, ltb, ltb→lt, nltb→le}
 use lib.ListN.{length, get_or, drop, drop_of_length-le}
 use lib.Seq.{sets, length-sets}
 use Rattle.layout.specs.Checked.{is_good}
@@ -27,11 +26,11 @@ abbrev pub tag_at : List Row → ℕ → ℕ
 tag_at rows index = (get_or rows index no_row).tag
 
 -- what the loop's test tells of an index: whether a row of the table stands there
-pub row-left : (table : List ℕ) (index : ℕ) → T (ltb index (length table / 7)) → index < length (rows_of table)
-row-left table index less = omega (arith, ltb→lt index (length table / 7) less, length-rows_of table)
+pub row-left : (table : List ℕ) (index : ℕ) → index < length table / 7 → index < length (rows_of table)
+row-left table index less = omega (arith, less, length-rows_of table)
 
-pub no-row-left : (table : List ℕ) (index : ℕ) → T (not (ltb index (length table / 7))) → length (rows_of table) ≤ index
-no-row-left table index over = omega (arith, nltb→le index (length table / 7) over, length-rows_of table)
+pub no-row-left : (table : List ℕ) (index : ℕ) → length table / 7 ≤ index → length (rows_of table) ≤ index
+no-row-left table index over = omega (arith, over, length-rows_of table)
 
 module _ (payload edit : List ℕ) (rows : List Row) (output₀ : List ℕ) where
   -- the sections of the rows from an index on

@@ -66,7 +66,7 @@ module _ (c : tie.After-store_body-body) where
       × ((records_from (s l) c.store_body-body.result.at ≡ past (entry_tag t) rs)
       × ((c.store_body-body.result.to ≡ to l + header_size t + length (stored_bytes (x l)))
       × ((c.store_body-body.result.count ≡ length (run (entry_tag t) rs))
-      × (c.store_body-body.new.1.1.1.1.0 ≡ sets (start l).args.output.now (to l + header_size t) (stored_bytes (x l)))))))
+      × (c.store_body-body.new.output ≡ sets (start l).args.output.now (to l + header_size t) (stored_bytes (x l)))))))
   stored = rw (c.before.header_size.ensures, c.before.before.before.tag_of-tag.ensures) at c.store_body-body.ensures
 
 line-end-requires : tie.Need-line_end-end-requires
@@ -126,7 +126,7 @@ returns c =
     let (further, (checked, (records, (stop, (count, bytes))))) = stored b in
     let framed = rw b.before.before.before.tag_of-tag.ensures at k.close-to.ensures in
     let (sound, sections) = next_here (s (l b)) (at (l b)) (end (l b)) g b.store_body-body.result.at checked records in
-    let (after, left) = closed-here (s (l b)) (at (l b)) (end (l b)) g (start (l b)).args.output.now b.store_body-body.new.1.1.1.1.0 k.close-to.new.0 (to (l b)) b.store_body-body.result.to b.store_body-body.result.count k.close-to.result stop bytes count framed.0 framed.1 in
+    let (after, left) = closed-here (s (l b)) (at (l b)) (end (l b)) g (start (l b)).args.output.now b.store_body-body.new.output k.close-to.new.output (to (l b)) b.store_body-body.result.to b.store_body-body.result.count k.close-to.result stop bytes count framed.0 framed.1 in
     (omega (arith, further, g.next.least), (sound, (sections, rw g.is (after, left))))
 
 pub store_section_spec : {M : Type 1} → statement M

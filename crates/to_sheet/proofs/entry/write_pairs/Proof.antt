@@ -124,7 +124,7 @@ add_at c =
     let p = i.before.before.before.args.payload.now in
     let is = found f in
     let there : i.loop-done.at + f.before.before.wire_size.result.0 + size.wire_size-in-loop-done.result.0 ≡ next_pair p i.loop-done.at = omega (arith, size.wire_size-in-loop-done.ensures, is.start_is, is.value-is) in
-    let most : i.loop.at + f.before.before.wire-size.result.0 + size.wire-size2.result.0 ≤ 2 ^ 40 = omega (arith, small f.before.before.before.before) in
+    let most : i.loop-done.at + f.before.before.wire_size.result.0 + size.wire_size-in-loop-done.result.0 ≤ 2 ^ 40 = omega (arith, small f.before.before.before.before) in
     omega arith
 
 add_done : tie.Need-overflow_add-done invariant-loop decreases-loop

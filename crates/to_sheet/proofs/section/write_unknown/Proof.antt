@@ -39,7 +39,7 @@ told :
     (let number = h.before.before.before.before in
     let a = number.before.before.before.before.before.before.before.before.before.before.before.before.args in
     let bytes = field (hex_pairs (part a.payload.now (a.at + 8) (u32_at a.payload.now a.at - 8))) in
-    (h.write_hex-end.result ≡ number.write_number-next.result + length bytes) × (h.write_hex-end.new.0 ≡ sets number.write_number-next.new.0 number.write_number-next.result bytes))
+    (h.write_hex-end.result ≡ number.write_number-next.result + length bytes) × (h.write_hex-end.new.output ≡ sets number.write_number-next.new.output number.write_number-next.result bytes))
 told h =
     let number = h.before.before.before.before in
     let read = number.before.before.before.before.before.before.before.before in
@@ -48,7 +48,7 @@ told h =
     let size : body.before.body_size-bytes.result ≡ u32_at a.payload.now a.at - 8 = body.before.body_size-bytes.ensures ∙ ap (λ (k : ℕ). k - 8) read.before.read_u32.ensures in
     let bytes : ℕ → List ℕ = λ k. field (hex_pairs (part a.payload.now (a.at + 8) k)) in (
       h.write_hex-end.ensures.0 ∙ ap (λ (k : ℕ). number.write_number-next.result + length (bytes k)) size,
-      h.write_hex-end.ensures.1 ∙ ap (λ (k : ℕ). sets number.write_number-next.new.0 number.write_number-next.result (bytes k)) size,
+      h.write_hex-end.ensures.1 ∙ ap (λ (k : ℕ). sets number.write_number-next.new.output number.write_number-next.result (bytes k)) size,
     )
 
 body-size-requires : tie.Need-body_size-bytes-requires

@@ -40,7 +40,7 @@ write-sections-requires c κs =
 stored :
     (w : tie.After-write_sections) →
     (let a = w.before.before.before.before.before.args in
-    (w.write_sections.result ≡ length (sheet_lines a.payload.now)) × (w.write_sections.new.1.1.0 ≡ sets a.output.now 0 (sheet_lines a.payload.now)))
+    (w.write_sections.result ≡ length (sheet_lines a.payload.now)) × (w.write_sections.new.output ≡ sets a.output.now 0 (sheet_lines a.payload.now)))
 unfolding sheet_lines places
 stored w = rw w.before.before.read_u16.ensures at w.write_sections.ensures
 
