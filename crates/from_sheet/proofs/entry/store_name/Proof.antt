@@ -25,14 +25,14 @@ add-text c = search rules
 write-unescaped-requires : tie.Need-write_unescaped-end-requires
 write-unescaped-requires c κs =
     let start = c.before.before.before in
-    let n = name (unescape start.args.field.now) start.args.content-size in
+    let n = name (unescape start.args.field.now) start.args.content_size in
     omega (arith, length-name_entry n, le-aligned (16 + wire_size (length n.text)), start.requires.0)
 
 cast-close-name : tie.Need-overflow_cast-end
 cast-close-name c =
     let w = c.before.before.before in
     let start = w.before.before.before.before in
-    let n = name (unescape start.args.field.now) start.args.content-size in
+    let n = name (unescape start.args.field.now) start.args.content_size in
     omega (arith, w.write_unescaped-end.ensures.0, length-name_entry n, le-aligned (16 + wire_size (length n.text)), start.requires.1)
 
 close-name-requires : tie.Need-close_name-requires
@@ -46,10 +46,10 @@ returns c =
     let closed = c.before.before in
     let w = closed.before.before.before.before in
     let a = w.before.before.before.before.args in
-    let n = name (unescape a.field.now) a.content-size in
-    let size = u32 a.content-size in
+    let n = name (unescape a.field.now) a.content_size in
+    let size = u32 a.content_size in
     let end = w.write_unescaped-end.ensures.0 in (
-      closed.close_name.ensures.0 ∙ ap (λ (m : ℕ). a.at + m) (entry-size 16 size (name-header a.content-size) n.text a.at end ∙ ap length (sym (name-is n))),
+      closed.close_name.ensures.0 ∙ ap (λ (m : ℕ). a.at + m) (entry-size 16 size (name-header a.content_size) n.text a.at end ∙ ap length (sym (name-is n))),
       closed.close_name.ensures.1 ∙ ap (λ (l : List ℕ). entry_framed (sets l (a.at + 12) size) a.at 16 w.write_unescaped-end.result) w.write_unescaped-end.ensures.1 ∙ name-closed a.output.now a.at n end,
     )
 

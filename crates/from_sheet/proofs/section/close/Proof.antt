@@ -24,10 +24,10 @@ module _ (s : tie.Start) (t : Tag) (told : s.args.tag ≡ t) where
   fields = fields_of s.args.line.now
 
   made : (k : ℕ) → k < number_count t → is_number (get_or fields k []) ≡ true
-  made = number-made t fields (rw told at s.pre.0)
+  made = number-made t fields (rw told at s.requires.0)
 
   begins : begins_section t ≡ true
-  begins = rw told at s.pre.1.1.0
+  begins = rw told at s.requires.1.1.0
 
 enum_told : tie.Need-enum_told-1
 enum_told c = search rules

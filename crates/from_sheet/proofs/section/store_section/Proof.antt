@@ -41,13 +41,13 @@ module _ (c : tie.After-line_end-end) where
   x = found s at end
 
   begun : Begun s at end
-  begun = begun-here s at end c.line_end-end.ensures start.pre.0 start.pre.1.0
+  begun = begun-here s at end c.line_end-end.ensures start.requires.0 start.requires.1.0
 
   -- what it stores ends within the output and the limit
   body : (to + (header_size (tag_in (here s at end)) + length (stored_bytes x)) ≤ length start.args.output.now) × (to + (header_size (tag_in (here s at end)) + length (stored_bytes x)) ≤ limit)
   body =
       let size = ap (λ (y : Section). length (encode_section y)) begun.is in
-      (omega (arith, body-within s at end begun, size, start.pre.1.1.0), omega (arith, body-within s at end begun, size, start.pre.1.1.1))
+      (omega (arith, body-within s at end begun, size, start.requires.1.1.0), omega (arith, body-within s at end begun, size, start.requires.1.1.1))
 
 -- what was stored of it
 module _ (c : tie.After-store_body-body) where

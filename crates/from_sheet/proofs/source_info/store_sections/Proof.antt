@@ -52,7 +52,7 @@ store-section-requires c κs =
     let (sound, counted, ends, stored, same) = i.loop-position.invariant in
     let (rest, e) = first-here s at less sound in
     let sum = length-append (encode_section (section_at s at)) (flat_map encode_section rest) in
-    let first : i.loop.position.to + length (encode_section (section_at s at)) ≤ 8 + length (bytes s 0) = omega (arith, ap length (parted s at rest e), sum, ends) in
+    let first : i.loop-position.position.to + length (encode_section (section_at s at)) ≤ 8 + length (bytes s 0) = omega (arith, ap length (parted s at rest e), sum, ends) in
     (less, (sound, (omega (arith, first, same, start.requires.1.1.0), omega (arith, first, start.requires.1.1.1))))
 
 -- the sections from a place on, after a turn
