@@ -5,13 +5,14 @@
 // it. tests/programs/run.sh runs the program on every other kind of input.
 #![tactic(auto)]
 
-use libc::{STDIN_FILENO, STDOUT_FILENO};
+use std::io;
+use std::io::{Read, Write};
 
-fn main() {
+fn main(rt: HostRuntime) -> io::Result<()> {
     // a byte more than the program lists, which tells that there are more
-    let mut input = [0u8; 65537];
-    let count = io::read_full(STDIN_FILENO, &mut input);
+    let mut input = Vec::new(rt.alloc());
+    rt.reader().take(65537).read_to_end(&mut input)?;
     let mut output = [0u8; 65536];
-    let size = print::print_listing(&input[..count], &mut output);
-    io::write_all(STDOUT_FILENO, &output[..size]);
+    let size = print::print_listing(&input, &mut output);
+    io::writer(&rt).write_all(&output[..size])
 }

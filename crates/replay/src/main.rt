@@ -39,12 +39,16 @@
 ghost use Rattle.std.specs.Prelude.{◌≤◌, length};
 
 use layout::Answer;
-use libc::STDOUT_FILENO;
+use std::io::{BufWriter, Write};
+use std::{fs, io};
 use table::Row;
 
 const NUMBERS: usize = 128;
 
 const BYTES: usize = 512;
+
+// The most bytes that a call is given.
+const BUFFER: usize = 4096;
 
 // What every number of the table, and every byte of the output, holds before a call.
 const UNTOUCHED: u32 = 2_779_096_485;
@@ -139,30 +143,19 @@ fn decode(text: &[u8], out: &mut [u8]) -> usize
     count
 }
 
-fn print_number(number: u32) {
-    io::print_decimal(STDOUT_FILENO, number as u64);
-}
-
 // Each with a space before it.
-fn print_numbers(numbers: &[u32]) {
-    let mut i: usize = 0;
-    while i < numbers.len() {
-        io::write_all(STDOUT_FILENO, b" ");
-        print_number(numbers[i]);
-        i += 1;
+fn print_numbers<W: Write>(out: &mut W, numbers: &[u32]) -> io::Result<()> {
+    for number in numbers {
+        write!(out, " {number}")?;
     }
+    Ok(())
 }
 
-fn print_byte(byte: u8) {
-    io::print_hex(STDOUT_FILENO, byte as u64, 2);
-}
-
-fn print_bytes(bytes: &[u8]) {
-    let mut i: usize = 0;
-    while i < bytes.len() {
-        print_byte(bytes[i]);
-        i += 1;
+fn print_bytes<W: Write>(out: &mut W, bytes: &[u8]) -> io::Result<()> {
+    for byte in bytes {
+        write!(out, "{byte:02x}")?;
     }
+    Ok(())
 }
 
 // How many numbers are as they were before a call.
@@ -208,48 +201,54 @@ fn stored(answer: Answer, most: usize) -> usize
 }
 
 // The two numbers of an answer, each with a space after it.
-fn print_answer(answer: Answer) {
-    print_number(answer.number());
-    io::write_all(STDOUT_FILENO, b" ");
-    print_number(answer.second());
-    io::write_all(STDOUT_FILENO, b" ");
+fn print_answer<W: Write>(out: &mut W, answer: Answer) -> io::Result<()> {
+    let number = answer.number();
+    let second = answer.second();
+    write!(out, "{number} {second} ")
 }
 
-fn print_table(table: &[u32; NUMBERS], stored: usize)
+fn print_table<W: Write>(out: &mut W, table: &[u32; NUMBERS], stored: usize) -> io::Result<()>
     requires { stored ≤ 128 }
 {
     let numbers = &table[..];
-    io::print_decimal(STDOUT_FILENO, untouched(&numbers[stored..]) as u64);
-    print_numbers(&numbers[..stored]);
-    io::write_all(STDOUT_FILENO, b"\n");
+    let left = untouched(&numbers[stored..]);
+    write!(out, "{left}")?;
+    print_numbers(out, &numbers[..stored])?;
+    out.write_all(b"\n")
 }
 
-fn print_output(output: &[u8; BYTES], stored: usize)
+fn print_output<W: Write>(out: &mut W, output: &[u8; BYTES], stored: usize) -> io::Result<()>
     requires { stored ≤ 512 }
 {
     let bytes = &output[..];
-    io::print_decimal(STDOUT_FILENO, untouched_bytes(&bytes[stored..]) as u64);
-    io::write_all(STDOUT_FILENO, b" ");
-    print_bytes(&bytes[..stored]);
-    io::write_all(STDOUT_FILENO, b"\n");
+    let left = untouched_bytes(&bytes[stored..]);
+    write!(out, "{left} ")?;
+    print_bytes(out, &bytes[..stored])?;
+    out.write_all(b"\n")
 }
 
-fn replay_read(payload: &[u8], lent: usize)
+fn replay_read<W: Write>(out: &mut W, payload: &[u8], lent: usize) -> io::Result<()>
     requires { lent ≤ 128 }
 {
     let mut table = [UNTOUCHED; NUMBERS];
     let answer = read::read(payload, &mut table[..lent]);
-    print_answer(answer);
-    print_table(&table, stored(answer, NUMBERS / Row::WIDTH) * Row::WIDTH);
+    print_answer(out, answer)?;
+    print_table(out, &table, stored(answer, NUMBERS / Row::WIDTH) * Row::WIDTH)
 }
 
-fn replay_write<'a>(payload: &'a [u8], edit: &'a [u8], rows: &[u32], lent: usize)
+fn replay_write<'a, W: Write>(
+    out: &mut W,
+    payload: &'a [u8],
+    edit: &'a [u8],
+    rows: &[u32],
+    lent: usize,
+) -> io::Result<()>
     requires { lent ≤ 512 }
 {
     let mut output = [UNTOUCHED_BYTE; BYTES];
     let answer = write::write(payload, edit, rows, &mut output[..lent]);
-    print_answer(answer);
-    print_output(&output, stored(answer, BYTES));
+    print_answer(out, answer)?;
+    print_output(out, &output, stored(answer, BYTES))
 }
 
 // A job that takes an input, which is a payload or a sheet, and an output.
@@ -272,134 +271,131 @@ fn make(job: Job, input: &[u8], output: &mut [u8]) -> Answer {
     }
 }
 
-fn replay_made(job: Job, input: &[u8], lent: usize)
+fn replay_made<W: Write>(out: &mut W, job: Job, input: &[u8], lent: usize) -> io::Result<()>
     requires { lent ≤ 512 }
 {
     let mut output = [UNTOUCHED_BYTE; BYTES];
     let answer = make(job, input, &mut output[..lent]);
-    print_answer(answer);
-    print_output(&output, stored(answer, BYTES));
+    print_answer(out, answer)?;
+    print_output(out, &output, stored(answer, BYTES))
 }
 
 // What a call of reading is given, as data/calls.txt has it. Anything else prints nothing.
-fn read_line(fields: &[u8]) {
+fn read_line<W: Write>(out: &mut W, fields: &[u8]) -> io::Result<()> {
     let space = find(fields, 0, b' ');
     if space == fields.len() {
-        return;
+        return Ok(());
     }
     let lent = number(&fields[..space]);
     if NUMBERS < lent {
-        return;
+        return Ok(());
     }
     let start = space + 1;
-    let mut payload = io::buffer();
+    let mut payload = [0u8; BUFFER];
     let count = decode(&fields[start..], &mut payload);
-    replay_read(&payload[..count], lent);
+    replay_read(out, &payload[..count], lent)
 }
 
 // What a call of writing is given after the count that is lent, as data/calls.txt has it. Anything else
 // prints nothing.
-fn write_fields(fields: &[u8], lent: usize)
+fn write_fields<W: Write>(out: &mut W, fields: &[u8], lent: usize) -> io::Result<()>
     requires { lent ≤ 512 }
 {
     let first = find(fields, 0, b' ');
     if first == fields.len() {
-        return;
+        return Ok(());
     }
     let start = first + 1;
     let second = find(fields, start, b' ');
     if second == fields.len() {
-        return;
+        return Ok(());
     }
     let last = second + 1;
-    let mut payload = io::buffer();
+    let mut payload = [0u8; BUFFER];
     let bytes = decode(&fields[..first], &mut payload);
-    let mut edit = io::buffer();
+    let mut edit = [0u8; BUFFER];
     let edits = decode(&fields[start..second], &mut edit);
     let mut rows = [0u32; NUMBERS];
     let numbers = decode_numbers(&fields[last..], &mut rows);
-    replay_write(&payload[..bytes], &edit[..edits], &rows[..numbers], lent);
+    replay_write(out, &payload[..bytes], &edit[..edits], &rows[..numbers], lent)
 }
 
 // What a call of writing is given. Anything else prints nothing.
-fn write_line(fields: &[u8]) {
+fn write_line<W: Write>(out: &mut W, fields: &[u8]) -> io::Result<()> {
     let space = find(fields, 0, b' ');
     if space == fields.len() {
-        return;
+        return Ok(());
     }
     let lent = number(&fields[..space]);
     if BYTES < lent {
-        return;
+        return Ok(());
     }
     let start = space + 1;
-    write_fields(&fields[start..], lent);
+    write_fields(out, &fields[start..], lent)
 }
 
 // What a call of such a job is given, as data/calls.txt has it. Anything else prints nothing.
-fn made_line(job: Job, fields: &[u8]) {
+fn made_line<W: Write>(out: &mut W, job: Job, fields: &[u8]) -> io::Result<()> {
     let space = find(fields, 0, b' ');
     if space == fields.len() {
-        return;
+        return Ok(());
     }
     let lent = number(&fields[..space]);
     if BYTES < lent {
-        return;
+        return Ok(());
     }
     let start = space + 1;
-    let mut input = io::buffer();
+    let mut input = [0u8; BUFFER];
     let count = decode(&fields[start..], &mut input);
-    replay_made(job, &input[..count], lent);
+    replay_made(out, job, &input[..count], lent)
 }
 
 // A call of the job that the line begins with. A line that names no job prints nothing.
-fn replay_line(line: &[u8]) {
+fn replay_line<W: Write>(out: &mut W, line: &[u8]) -> io::Result<()> {
     let space = find(line, 0, b' ');
     if space == line.len() {
-        return;
+        return Ok(());
     }
     let start = space + 1;
     let word = &line[..space];
     let fields = &line[start..];
     if check::same(word, b"read") {
-        read_line(fields);
+        return read_line(out, fields);
     }
     if check::same(word, b"write") {
-        write_line(fields);
+        return write_line(out, fields);
     }
     if check::same(word, b"list") {
-        made_line(Job::List, fields);
+        return made_line(out, Job::List, fields);
     }
     if check::same(word, b"public_copy") {
-        made_line(Job::PublicCopy, fields);
+        return made_line(out, Job::PublicCopy, fields);
     }
     if check::same(word, b"card") {
-        made_line(Job::Card, fields);
+        return made_line(out, Job::Card, fields);
     }
     if check::same(word, b"to_sheet") {
-        made_line(Job::ToSheet, fields);
+        return made_line(out, Job::ToSheet, fields);
     }
     if check::same(word, b"from_sheet") {
-        made_line(Job::FromSheet, fields);
+        return made_line(out, Job::FromSheet, fields);
     }
+    Ok(())
 }
 
-fn replay_all(calls: &[u8]) {
+fn replay_all<W: Write>(out: &mut W, calls: &[u8]) -> io::Result<()> {
     let mut at: usize = 0;
     while at < calls.len() {
         let end = find(calls, at, b'\n');
-        replay_line(&calls[at..end]);
+        replay_line(out, &calls[at..end])?;
         at = end + 1;
     }
+    Ok(())
 }
 
-fn main() {
-    let fd = os::open_read(b"calls.txt");
-    if fd < 0 {
-        os::fail(b"calls.txt");
-        return;
-    }
-    let mut calls = [0u8; 524288];
-    let count = io::read_full(fd, &mut calls);
-    libc::close(fd);
-    replay_all(&calls[..count]);
+fn main(rt: HostRuntime) -> io::Result<()> {
+    let calls = fs::read(&rt, "calls.txt")?;
+    let mut out = BufWriter::new(rt.alloc(), io::writer(&rt))?;
+    replay_all(&mut out, &calls)?;
+    out.flush()
 }

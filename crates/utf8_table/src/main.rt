@@ -13,7 +13,7 @@
 
 ghost use Rattle.std.specs.Prelude.{◌≤◌};
 
-use libc::STDOUT_FILENO;
+use std::io;
 
 // The four bytes of a number below 2^32, the highest first.
 fn bytes(number: u64) -> [u8; 4] {
@@ -50,36 +50,31 @@ fn count(low: u64, high: u64, start: usize, end: usize) -> u64
     found
 }
 
-fn print_count(name: &[u8], found: u64) {
-    io::write_all(STDOUT_FILENO, name);
-    io::print_decimal(STDOUT_FILENO, found);
-    io::write_all(STDOUT_FILENO, b"\n");
+fn print_count(rt: &impl Print, name: &str, found: u64) -> io::Result<()> {
+    println!(rt; "{name}{found}")
 }
 
-fn print_answer(name: &[u8], text: &[u8]) {
-    io::write_all(STDOUT_FILENO, name);
+fn print_answer(rt: &impl Print, name: &str, text: &[u8]) -> io::Result<()> {
     match validate::validate(text) {
-        utf8::Utf8::WellFormed => {
-            io::write_all(STDOUT_FILENO, b"well formed\n");
-        }
-        utf8::Utf8::IllFormed(at) => {
-            print_count(b"ill formed at ", at as u64);
-        }
+        utf8::Utf8::WellFormed => println!(rt; "{name}well formed"),
+        utf8::Utf8::IllFormed(at) => println!(rt; "{name}ill formed at {at}"),
     }
 }
 
-fn main() {
-    print_count(b"well formed, 1 byte: ", count(0, 0x100, 3, 1));
-    print_count(b"well formed, 2 bytes: ", count(0, 0x1_0000, 2, 2));
-    print_count(b"well formed, 3 bytes: ", count(0, 0x100_0000, 1, 3));
+fn main(rt: HostRuntime) -> io::Result<()> {
+    print_count(&rt, "well formed, 1 byte: ", count(0, 0x100, 3, 1))?;
+    print_count(&rt, "well formed, 2 bytes: ", count(0, 0x1_0000, 2, 2))?;
+    print_count(&rt, "well formed, 3 bytes: ", count(0, 0x100_0000, 1, 3))?;
     print_count(
-        b"well formed, 4 bytes from F0 on: ",
+        &rt,
+        "well formed, 4 bytes from F0 on: ",
         count(0xF000_0000, 0x1_0000_0000, 0, 4),
-    );
+    )?;
     print_count(
-        b"ill formed at 1, 2 bytes from 00 to 7F on: ",
+        &rt,
+        "ill formed at 1, 2 bytes from 00 to 7F on: ",
         count(0, 0x8000, 2, 1),
-    );
-    print_answer(b"F4 90 80 80: ", b"\xF4\x90\x80\x80");
-    print_answer(b"EF BF BF: ", b"\xEF\xBF\xBF");
+    )?;
+    print_answer(&rt, "F4 90 80 80: ", b"\xF4\x90\x80\x80")?;
+    print_answer(&rt, "EF BF BF: ", b"\xEF\xBF\xBF")
 }
