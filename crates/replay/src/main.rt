@@ -233,7 +233,11 @@ fn replay_read<W: Write>(out: &mut W, payload: &[u8], lent: usize) -> io::Result
     let mut table = [UNTOUCHED; NUMBERS];
     let answer = read::read(payload, &mut table[..lent]);
     print_answer(out, answer)?;
-    print_table(out, &table, stored(answer, NUMBERS / Row::WIDTH) * Row::WIDTH)
+    print_table(
+        out,
+        &table,
+        stored(answer, NUMBERS / Row::WIDTH) * Row::WIDTH,
+    )
 }
 
 fn replay_write<'a, W: Write>(
@@ -317,7 +321,13 @@ fn write_fields<W: Write>(out: &mut W, fields: &[u8], lent: usize) -> io::Result
     let edits = decode(&fields[start..second], &mut edit);
     let mut rows = [0u32; NUMBERS];
     let numbers = decode_numbers(&fields[last..], &mut rows);
-    replay_write(out, &payload[..bytes], &edit[..edits], &rows[..numbers], lent)
+    replay_write(
+        out,
+        &payload[..bytes],
+        &edit[..edits],
+        &rows[..numbers],
+        lent,
+    )
 }
 
 // What a call of writing is given. Anything else prints nothing.

@@ -1,8 +1,7 @@
 -- `utf8_host::utf8_validate` meets its contract: it tells what `utf8::validate` answered.
 -- Assumes nothing.
-use mathlib.Core.Path.{◌≡◌, sym, ◌∙◌, ap}
+use mathlib.Core.Path.{sym, ◌∙◌, ap}
 use borrow.Author.Rules.{rules}
-use Rattle.utf8.specs.Rfc3629.{utf8_of}
 use Rattle.utf8.specs.declared.Utf8.{Utf8}
 use Rattle.utf8_host.specs.Told.{number, place}
 use Rattle.utf8_host.proofs.utf8_validate.Statement.{statement}
