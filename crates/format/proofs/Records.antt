@@ -1,10 +1,10 @@
 -- Records and sections say the same: the sections of the records of sections are these sections, and the records of the sections of records that stand in
 -- order are these records.
 -- Assumes nothing.
-use Prim.Native.Nat.{ℕ, ◌%◌, ◌^◌, ◌≤◌, ◌<◌}
-use mathlib.Core.Bool.{Bool, true, false, and-eq-true_iff}
+use Prim.Native.Nat.{ℕ}
+use mathlib.Core.Bool.{true, false, and-eq-true_iff}
 use mathlib.Core.List.{List, [], ◌∷◌, ◌++◌, map, flat_map, append-nil}
-use mathlib.Core.Path.{◌≡◌, refl, sym, ap, ap₂, subst, ◌∙◌}
+use mathlib.Core.Path.{◌≡◌, refl, sym, ap, ap₂, ◌∙◌}
 use native.Mathlib.Omega.{arith}
 use lib.ListN.{length, get_or}
 use Rattle.table.specs.Tags.{same_tag, entry_tag, begins_section}
@@ -14,7 +14,7 @@ use Rattle.table.proofs.Tags.{tag_same, tag-discrete, entry-begins-none}
 use Rattle.layout.proofs.Lists.{flat_map-append}
 use Rattle.format.specs.Records.{Record, says, number_count, text_count, is_placed, in_order, content_record, name_record, pair_record, records_of, records, number, text, name_of, pair_of, leading, begun, sections}
 use Rattle.format.specs.Sections.{Name, Pair, Section, plain, packed, names, arguments, unknown}
-use Rattle.format.specs.WellFormed.{Bytes, All, Text, NameOk, PairOk, WellFormed}
+use Rattle.format.specs.WellFormed.{All}
 use Rattle.format.proofs.RecordsByTag.{leading-more, leading-ends}
 
 never : true ≡ false → ⊥

@@ -11,7 +11,7 @@ use Rattle.table.specs.declared.tag.Tag.{Tag}
 use Rattle.table.specs.declared.tag.Tag.TheVariants as tag
 use Rattle.table.proofs.Tags.{tag-discrete}
 use Rattle.format.specs.Records.{Record, number_count, text_count, is_placed, in_order, content_record, name_record, pair_record, records_of, records, number, text, name_of, pair_of, leading, begun, sections}
-use Rattle.format.specs.Sections.{Name, Pair, Section, plain, packed, names, arguments, unknown}
+use Rattle.format.specs.Sections.{Section, plain, packed, names, arguments, unknown}
 use Rattle.format.specs.WellFormed.{Bytes, All, Text, NameOk, PairOk, WellFormed}
 use Rattle.format.proofs.Records.{Shaped}
 use Rattle.format.proofs.RecordsByTag.{leading-more, leading-ends}

@@ -11,7 +11,7 @@ use lib.ListN.{length, get_or, set}
 use Rattle.wire.specs.Padding.{all_zero}
 use Rattle.layout.specs.Checked.{Checked, good}
 use Rattle.layout.specs.Spans.{Span, side_of, span_bytes, inside}
-use Rattle.table.specs.Rows.{width, no_row, rows_of, store_row, name_row, spans_by}
+use Rattle.table.specs.Rows.{no_row, rows_of, store_row, name_row, spans_by}
 use Rattle.table.proofs.Rows.{length-table_of, rows_of-table_of, length-store_row, rows_of-store_row}
 use Rattle.table.specs.Tags.{tag_of}
 use Rattle.table.specs.declared.row.Row.{Row}

@@ -3,7 +3,7 @@
 -- Assumes nothing.
 use Prim.Native.Nat.{ℕ, ◌+◌, ◌*◌, ◌/◌, ◌%◌, ◌≤◌}
 use mathlib.Core.Bool.{Bool, true, false, cond}
-use mathlib.Core.List.{List, [], ◌∷◌, map}
+use mathlib.Core.List.{List, [], ◌∷◌}
 use mathlib.Core.Path.{◌≡◌, refl, sym, ap, ◌∙◌}
 use native.Mathlib.Omega.{arith}
 use borrow.Author.Tests.{eq-eqb}
@@ -31,7 +31,7 @@ use Rattle.format.specs.RoundTrips.{AcceptedIsEncoded, sections_read, EncodedIsA
 use Rattle.format.specs.Rules.{texts_of, check_texts, check_row, check_rows}
 use Rattle.format.specs.Said.{numbers_by, said}
 use Rattle.format.specs.Sections.{Section}
-use Rattle.format.specs.WellFormed.{Bytes, All}
+use Rattle.format.specs.WellFormed.{All}
 use Rattle.format.specs.Write.{written, written_table, write_answer, write_output}
 use Rattle.format.proofs.Answers.{held}
 use Rattle.format.proofs.EncodedBytes.{encoded-bytes}

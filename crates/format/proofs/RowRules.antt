@@ -1,7 +1,7 @@
 -- What the rules say of rows that obey them: of each row by itself, and of what it follows.
 -- Assumes nothing.
 use Prim.Native.Nat.{ℕ, ◌%◌, ◌≤◌}
-use mathlib.Core.Bool.{Bool, true, false, cond, and-eq-true_iff}
+use mathlib.Core.Bool.{true, false, cond, and-eq-true_iff}
 use mathlib.Core.List.{List, [], ◌∷◌}
 use mathlib.Core.Path.{◌≡◌, refl}
 use native.Mathlib.Omega.{arith}

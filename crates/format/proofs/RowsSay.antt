@@ -8,7 +8,7 @@ use lib.ListN.{length}
 use Rattle.layout.specs.Checked.{good}
 use Rattle.layout.specs.Spans.{Span, side_of, span_bytes}
 use Rattle.layout.proofs.Lists.{flat_map-append}
-use Rattle.table.specs.Rows.{bytes_span, text_span, value_span, spans_by}
+use Rattle.table.specs.Rows.{bytes_span, spans_by}
 use Rattle.table.specs.Tags.{tag_of, entry_tag, begins_section}
 use Rattle.table.specs.declared.row.Row.{Row}
 use Rattle.table.specs.declared.tag.Tag.{Tag}

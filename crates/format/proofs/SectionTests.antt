@@ -1,6 +1,6 @@
 -- Sections one by one: what the definition of the rest is once the first is known; and the main header before them.
 -- Assumes nothing.
-use Prim.Native.Nat.{ℕ, suc, ◌+◌, ◌%◌, ◌≤◌, ◌<◌}
+use Prim.Native.Nat.{ℕ, suc, ◌%◌, ◌≤◌, ◌<◌}
 use mathlib.Core.List.{List, []}
 use mathlib.Core.Path.{◌≡◌, ◌∙◌}
 use borrow.Author.Tests.{le-leb, lt-leb, eq-eqb, ne_eqb}

@@ -7,7 +7,6 @@ use mathlib.Core.List.{List, [], ◌∷◌, ◌++◌, map, flat_map}
 use mathlib.Core.Path.{◌≡◌, refl, ap₂}
 use native.Mathlib.Omega.{arith}
 use lib.ListN.{length, length-append}
-use Rattle.wire.specs.Number.{u16_at}
 use Rattle.wire.specs.Padding.{aligned}
 use Rattle.table.specs.declared.row.Row.{Row}
 use Rattle.format.specs.Encoding.{limit, kind_of, encode_section, encode, all_countable, within_limits}

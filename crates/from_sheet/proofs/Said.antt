@@ -1,6 +1,6 @@
 -- What a line says, by its fields, tag by tag; and what is known of each field where the line has just its fields.
 -- Assumes nothing.
-use Prim.Native.Nat.{ℕ, zero, suc, ◌+◌, ◌≤◌, ◌<◌}
+use Prim.Native.Nat.{ℕ, zero, suc, ◌≤◌, ◌<◌}
 use mathlib.Core.Bool.{Bool, true, and-eq-true_iff}
 use mathlib.Core.List.{List, [], ◌∷◌}
 use mathlib.Core.Path.{◌≡◌, refl}
@@ -10,7 +10,7 @@ use Rattle.table.specs.declared.tag.Tag.{Tag}
 use Rattle.table.specs.declared.tag.Tag.TheVariants as tag
 use Rattle.format.specs.Records.{number_count, text_count, number, text, name_of, pair_of}
 use Rattle.frames.specs.Entry.{name, pair}
-use Rattle.sheet.specs.Fields.{all, spelt, is_number, number_of, is_hex_pairs, bytes_of_pairs, unescape}
+use Rattle.sheet.specs.Fields.{all, spelt, is_number, number_of, bytes_of_pairs, unescape}
 use Rattle.sheet.specs.Lines.{is_shown, said_by, is_made, is_ruled}
 use Rattle.sheet.proofs.LinesRead.{kind_ok, Fields, each-field}
 

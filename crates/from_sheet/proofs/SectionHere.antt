@@ -14,14 +14,13 @@ use Rattle.table.specs.declared.tag.Tag.{Tag}
 use Rattle.table.specs.declared.tag.Tag.TheVariants.{None}
 use Rattle.table.proofs.Tags.{entry-begins-none}
 use Rattle.format.specs.Encoding.{stored_bytes, encode_section}
-use Rattle.format.specs.Records.{Record, begun, is_placed, in_order, sections}
+use Rattle.format.specs.Records.{Record, is_placed, in_order, sections}
 use Rattle.format.specs.Sections.{Section, unknown}
 use Rattle.format.proofs.Records.{Placed, placed, begins, entry, no_record}
 use Rattle.format.proofs.SectionBytes.{filled, length-section}
 use Rattle.frames.proofs.Closed.{closed-size, section-closed}
-use Rattle.sheet.specs.Lines.{is_made, is_ruled}
 use Rattle.lines.specs.Measure.{line_end}
-use Rattle.from_sheet.specs.Records.{tag_in, fields_of, record_of, records_from, sections_from, CheckedFrom, AtSection}
+use Rattle.from_sheet.specs.Records.{tag_in, record_of, records_from, sections_from, CheckedFrom, AtSection}
 use Rattle.from_sheet.specs.Run.{run, past}
 use Rattle.from_sheet.specs.Section.{section_of, section_at, header_size, Framed}
 use Rattle.from_sheet.proofs.RecordsFrom.{here, Next, next}

@@ -20,7 +20,6 @@ use Rattle.table.specs.declared.row.Row.{Row}
 use Rattle.format.specs.CopyWalk.{contents_copy}
 use Rattle.format.specs.Encoding.{u16, u32, padded, content_entry, stored_bytes, body_header, kind_of, encode_section}
 use Rattle.format.specs.Parse.{entries, content_row_at, parse_stored, parse_contents}
-use Rattle.format.specs.Sections.{plain}
 use Rattle.format.specs.Walk.{compression_at}
 use Rattle.format.proofs.EntryLaws.{entry-good, entries_none, entries-first}
 use Rattle.format.proofs.SectionLaws.{contents-good, plain-good}

@@ -19,7 +19,7 @@ use Rattle.format.specs.WellFormed.{All}
 use Rattle.sheet.specs.Fields.{newline}
 use Rattle.sheet.specs.FromSheet.{read_lines, sheet_records}
 use Rattle.sheet.specs.Lines.{Parts, parts, split}
-use Rattle.sheet.specs.Promises.{closed, last_tag, RefusedLine, FaultyLine, FaultIsOfALine}
+use Rattle.sheet.specs.Promises.{closed, last_tag, RefusedLine, FaultIsOfALine}
 use Rattle.sheet.proofs.Splitting.{Free, closed-split, split-free}
 
 pub never : {A : Type 0} {a : A} {r : Refusal} → ◌≡◌ {A = Checked A} (good a) (fault r) → ⊥

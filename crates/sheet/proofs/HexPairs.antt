@@ -1,15 +1,14 @@
 -- Bytes: their hex pairs are read as them, and pairs of digits are the hex pairs of what they are read as.
 -- Assumes nothing.
-use Prim.Native.Nat.{ℕ, zero, suc, ◌+◌, ◌-◌, ◌*◌, ◌/◌, ◌%◌, ◌≤◌, ◌<◌}
+use Prim.Native.Nat.{ℕ, zero, suc, ◌+◌, ◌-◌, ◌*◌, ◌/◌, ◌%◌, ◌<◌}
 use mathlib.Core.Bool.{Bool, true, false, cond, ◌&&◌, ◌||◌, and-eq-true_iff}
-use mathlib.Core.List.{List, [], ◌∷◌, ◌++◌, flat_map}
+use mathlib.Core.List.{List, [], ◌∷◌, flat_map}
 use mathlib.Core.Path.{◌≡◌, refl, ap, ap₂, ◌∙◌}
 use native.Mathlib.Omega.{arith}
 use borrow.Author.Tests.{leb-true, leb-false, le-leb, lt-leb, ltb-true, ltb-false, lt-ltb, le-ltb, ne_eqb}
-use lib.Dec.{leb, ltb, eqb}
-use lib.ListN.{get_or}
+use lib.Dec.{leb, ltb}
 use Rattle.format.specs.WellFormed.{Bytes}
-use Rattle.sheet.specs.Fields.{tab, newline, is_digit, hex_digit, hex_pair, hex_pairs, is_hex_digit, is_hex_pairs, hex_value, bytes_of_pairs}
+use Rattle.sheet.specs.Fields.{tab, newline, is_digit, hex_digit, hex_pairs, is_hex_digit, is_hex_pairs, hex_value, bytes_of_pairs}
 use Rattle.sheet.proofs.Codec.{Within, Codec}
 
 -- ---- a digit

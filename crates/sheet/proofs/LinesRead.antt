@@ -1,30 +1,29 @@
 -- Lines: the line of a record is read as the record, and a line that is read as a record is its line.
 -- Assumes nothing.
-use Prim.Native.Nat.{ℕ, ◌+◌, ◌-◌, ◌%◌, ◌^◌, ◌≤◌, ◌<◌, min}
-use mathlib.Core.Bool.{Bool, true, false, cond, not, ◌&&◌, ◌||◌, and-eq-true_iff}
+use Prim.Native.Nat.{ℕ, ◌+◌, ◌-◌, ◌%◌, min}
+use mathlib.Core.Bool.{Bool, true, false, cond, ◌&&◌, and-eq-true_iff}
 use mathlib.Core.List.{List, [], ◌∷◌, ◌++◌, map, flat_map}
-use mathlib.Core.Path.{◌≡◌, refl, sym, ap, ap₂, subst, ◌∙◌}
+use mathlib.Core.Path.{◌≡◌, refl, ap, ap₂, ◌∙◌}
 use native.Mathlib.Omega.{arith}
 use borrow.Author.Tests.{leb-true, le-leb, eqb-true, eq-eqb}
 use lib.Dec.{leb, eqb}
 use lib.ListN.{length, take, drop, length-append, length-map, take-append-drop, length-take, length-drop}
 use lib.Seq.{take_at, drop_at}
-use Rattle.layout.specs.Checked.{Checked, good, check, then}
-use Rattle.layout.specs.TextCheck.{check_whole}
+use Rattle.layout.specs.Checked.{good}
 use Rattle.layout.specs.declared.refusal.Refusal.{Refusal}
 use Rattle.layout.proofs.Checked.{check-good, check-passes, then-good, then-passes}
 use Rattle.table.specs.Tags.{same_tag, begins_section}
 use Rattle.table.specs.declared.tag.Tag.{Tag}
 use Rattle.table.specs.declared.tag.Tag.TheVariants as tag
 use Rattle.format.specs.Display.{decimal}
-use Rattle.format.specs.Records.{Record, says, number_count, text_count, is_placed, number, text}
-use Rattle.format.specs.WellFormed.{Bytes, All, Text}
+use Rattle.format.specs.Records.{Record, number_count, text_count, is_placed, number, text}
+use Rattle.format.specs.WellFormed.{Bytes, All}
 use Rattle.format.proofs.Records.{Shaped, no_record}
-use Rattle.format.proofs.RecordsOk.{TextOk, KindOk, RecordOk, Ok, Whole}
+use Rattle.format.proofs.RecordsOk.{TextOk, KindOk, Whole}
 use Rattle.format.proofs.RowsByTag.{all_append}
 use Rattle.format.proofs.TextsOk.{whole-ok, ok-whole}
 use Rattle.sheet.specs.Fields.{tab, newline, all, is_number, number_of, hex_pairs, is_hex_pairs, bytes_of_pairs, escape, is_escaped, unescape}
-use Rattle.sheet.specs.Lines.{word, shown, fields, parted, line, Parts, parts, split, tag_of_word, is_shown, said, said_by, is_made, is_ruled, check_all, texts_of, read_fields, read_line}
+use Rattle.sheet.specs.Lines.{word, shown, fields, parted, Parts, parts, split, tag_of_word, is_shown, said, said_by, is_made, is_ruled, check_all, texts_of, read_fields, read_line}
 use Rattle.sheet.proofs.Codec.{Within, Codec, all-within, all_one, all_back, all-good, all-again}
 use Rattle.sheet.proofs.Escapes.{text-codec}
 use Rattle.sheet.proofs.HexPairs.{bytes-codec}

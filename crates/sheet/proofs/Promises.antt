@@ -2,11 +2,11 @@
 -- Assumes nothing.
 use Prim.Native.Nat.{ℕ}
 use mathlib.Core.Bool.{true}
-use mathlib.Core.List.{List, [], ◌∷◌, ◌++◌, flat_map}
+use mathlib.Core.List.{List, [], ◌∷◌, flat_map}
 use mathlib.Core.Path.{◌≡◌, refl, sym, ap, ◌∙◌}
 use lib.ListN.{length, take, drop}
 use lib.Seq.{take_at}
-use Rattle.layout.specs.Checked.{Checked, good, check, then}
+use Rattle.layout.specs.Checked.{Checked, good}
 use Rattle.layout.specs.declared.refusal.Answer.TheVariants.{Accepted}
 use Rattle.layout.proofs.Checked.{after-fault, check-good, check-passes, then-good, then-passes, is-good}
 use Rattle.table.specs.declared.row.Row.{Row}
@@ -15,7 +15,6 @@ use Rattle.format.specs.Output.{answer, output_after}
 use Rattle.format.specs.Parse.{parse}
 use Rattle.format.specs.Read.{accepted}
 use Rattle.format.specs.Records.{Record, records, sections}
-use Rattle.format.specs.Resolve.{resolve}
 use Rattle.format.specs.Secrecy.{AcceptedPayload}
 use Rattle.format.specs.Sections.{Section}
 use Rattle.format.specs.WellFormed.{Bytes, All, WellFormed}
@@ -29,7 +28,7 @@ use Rattle.format.proofs.Records.{Shaped, sections-of-records, records-of-sectio
 use Rattle.format.proofs.RecordsOk.{Ok, Whole, sections-ok, records-ok, records-order}
 use Rattle.format.proofs.RefusedCalls.{refused-call}
 use Rattle.format.specs.RefusedCalls.{OfReading}
-use Rattle.sheet.specs.FromSheet.{sheet_records, from_sheet, from_sheet_answer, from_sheet_output}
+use Rattle.sheet.specs.FromSheet.{from_sheet, from_sheet_answer, from_sheet_output}
 use Rattle.sheet.specs.Lines.{line}
 use Rattle.sheet.specs.Promises.{OutAndBack, OneSheetOnly, SheetsDiffer, PayloadsDiffer, CallsOutAndBack, CallsOneSheetOnly, ToSheetRefuses}
 use Rattle.sheet.specs.ToSheet.{sheet, to_sheet, to_sheet_answer, to_sheet_output}

@@ -12,12 +12,12 @@ use Rattle.layout.specs.Checked.{Checked, good}
 use Rattle.layout.specs.Spans.{part}
 use Rattle.table.specs.declared.row.Row.{Row}
 use Rattle.table.specs.declared.tag.Tag.TheVariants as tag
-use Rattle.format.specs.Encoding.{limit, content_entry, name_entry, pair_entry, stored_bytes, kind_of}
+use Rattle.format.specs.Encoding.{limit, content_entry, name_entry, stored_bytes, kind_of}
 use Rattle.format.specs.Parse.{parse}
-use Rattle.format.specs.Records.{Record, says, content_record, name_record, pair_record, records_of, records}
-use Rattle.format.specs.Sections.{Name, Pair, Section, plain, packed, names, arguments, unknown}
+use Rattle.format.specs.Records.{Record, says, content_record, name_record, records_of, records}
+use Rattle.format.specs.Sections.{Name, Section, plain, packed, names, arguments, unknown}
 use Rattle.format.specs.Walk.{places}
-use Rattle.format.specs.WellFormed.{Bytes, All, Text, NameOk, PairOk}
+use Rattle.format.specs.WellFormed.{Bytes, All, Text, NameOk}
 use Rattle.format.proofs.Encoded.{resolves}
 use Rattle.format.proofs.Encoding.{length-content_entry}
 use Rattle.format.proofs.EntryBytes.{content-is, stands-fields}

@@ -1,7 +1,7 @@
 -- A sheet is at most three and a half times as long as its payload: so is the line of each record, beside what the record takes in the payload.
 -- Assumes nothing.
 use Prim.Native.Nat.{ℕ, ◌+◌, ◌*◌, ◌^◌, ◌≤◌, ◌<◌}
-use mathlib.Core.List.{List, [], ◌∷◌, ◌++◌, map, flat_map}
+use mathlib.Core.List.{List, [], ◌∷◌, map, flat_map}
 use mathlib.Core.Path.{◌≡◌, refl, ap}
 use native.Mathlib.Omega.{arith}
 use mathlib.Core.Bool.{Bool, true, false, cond}
@@ -14,8 +14,8 @@ use Rattle.table.specs.Tags.{begins_section}
 use Rattle.table.specs.declared.tag.Tag.{Tag}
 use Rattle.table.specs.declared.tag.Tag.TheVariants as tag
 use Rattle.format.specs.Display.{ascii, decimal}
-use Rattle.format.specs.Encoding.{content_entry, name_entry, pair_entry, stored_bytes, encode_section, encode}
-use Rattle.format.specs.Records.{Record, says, content_record, name_record, pair_record, records_of, records}
+use Rattle.format.specs.Encoding.{content_entry, name_entry, pair_entry, stored_bytes, encode_section}
+use Rattle.format.specs.Records.{Record, content_record, name_record, pair_record, records_of, records}
 use Rattle.format.specs.Sections.{Name, Pair, Section, plain, packed, names, arguments, unknown}
 use Rattle.format.specs.WellFormed.{All, Text, NameOk, PairOk, WellFormed}
 use Rattle.format.proofs.DecimalLaws.{decimal-short}

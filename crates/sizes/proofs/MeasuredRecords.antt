@@ -21,7 +21,7 @@ use Rattle.table.specs.declared.tag.Tag.{Tag}
 use Rattle.table.specs.declared.tag.Tag.TheVariants.{PlainContents, PackedContents, Names, Arguments, Unknown, Content, Name, Pair, None}
 use Rattle.table.proofs.Tags.{same_tag_lem, tag_same, other_tag, tag-discrete, section-no-entry}
 use Rattle.format.specs.Encoding.{limit, encode_section, encode, countable, all_countable, within_limits}
-use Rattle.format.specs.Records.{Record, text, leading, begun, sections, is_placed, in_order}
+use Rattle.format.specs.Records.{Record, text, leading, sections, is_placed, in_order}
 use Rattle.format.specs.Rules.{follows}
 use Rattle.format.specs.Sections.{Section}
 use Rattle.format.proofs.Encoding.{length-encode, limits-good, limits-found}

@@ -1,5 +1,5 @@
 -- The promises of specs/Promises.antt, each proved under its name.
-use Prim.Native.Nat.{ℕ, zero, suc}
+use Prim.Native.Nat.{zero, suc}
 use mathlib.Core.Path.{refl}
 use native.Mathlib.Omega.{arith}
 use lib.Seq.{get_or-set_same}

@@ -13,7 +13,7 @@ use Rattle.utf8.specs.declared.Utf8.{Utf8}
 use Rattle.utf8.specs.declared.Utf8.TheVariants.{WellFormed, IllFormed}
 use Rattle.utf8.specs.Rfc3629.{Range, alternatives, within, begins, char_length, octets_from, utf8_of}
 use Rattle.utf8.specs.Classes.{class_of, length_after}
-use Rattle.validate.specs.Rule.{due, right, right_from, padded, right_at, open_at}
+use Rattle.validate.specs.Rule.{due, right, right_from, right_at, open_at}
 use Rattle.utf8.proofs.Alternatives.{length_at, class-length, char-length}
 use Rattle.validate.proofs.RuleGrammar.{formed, agrees}
 

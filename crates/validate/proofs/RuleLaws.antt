@@ -1,12 +1,12 @@
 -- What code that goes by the local rule has to know: when a byte is right, when no character is open, and that ASCII is right after ASCII.
 -- Assumes nothing.
-use Rattle.std.specs.Prelude.{◌≡◌, ℕ, zero, suc, ◌+◌, ◌-◌, ◌<◌, ◌≤◌, Bool, true, false, cond, not, ◌&&◌, ◌||◌, eqb, ltb, leb, List, [], ◌∷◌, get_or}
+use Rattle.std.specs.Prelude.{◌≡◌, ℕ, zero, suc, ◌+◌, ◌-◌, ◌<◌, ◌≤◌, Bool, true, false, cond, not, ◌&&◌, ◌||◌, eqb, ltb, leb, List, get_or}
 use mathlib.Core.Path.{refl, sym, ◌∙◌, ap}
 use mathlib.Core.Bool.{beq, true≢false}
 use native.Mathlib.Decide.{ℕ_discrete, dec_lt}
 use native.Mathlib.Omega.{arith}
 use borrow.Author.Tests.{leb-true, ltb-true, ltb-false, le-leb}
-use Rattle.utf8.specs.Rfc3629.{Range, to, tail, within}
+use Rattle.utf8.specs.Rfc3629.{to, tail, within}
 use Rattle.validate.specs.Rule.{due, follows, leads, right, padded, right_at, open_at}
 use Rattle.validate.proofs.RuleGrammar.{due-none, within_in, within-bounds, follows-E0, follows-ED, follows-F0, follows-F4, follows-tail, leads-ascii, leads-more}
 

@@ -1,7 +1,7 @@
 -- What holds of every place below one is carried on over a block; and a run of ASCII, told by its ends, keeps the answer.
 -- Assumes nothing.
 use Rattle.std.specs.Prelude.{◌≡◌, ℕ, ◌+◌, ◌-◌, ◌<◌, ◌≤◌, List, length, get_or, drop}
-use mathlib.Core.Path.{sym, ◌∙◌, ap, subst}
+use mathlib.Core.Path.{◌∙◌, ap, subst}
 use native.Mathlib.Decide.{dec_lt}
 use native.Mathlib.Omega.{arith}
 use Rattle.utf8.specs.Rfc3629.{octets_from}

@@ -11,7 +11,7 @@ use Rattle.layout.specs.Checked.{good}
 use Rattle.format.proofs.Output.{refused, told-no-room, told-room}
 use Rattle.sheet.specs.FromSheet.{from_sheet, from_sheet_answer, from_sheet_output}
 use Rattle.sizes.proofs.Sized.{sized-bytes, sized-refused}
-use Rattle.from_sheet.proofs.RecordsFrom.{Payload, payload-read}
+use Rattle.from_sheet.proofs.RecordsFrom.{payload-read}
 use Rattle.from_sheet.proofs.from_sheet.Statement.{statement}
 use Rattle.from_sheet.proofs.from_sheet.Tie as tie
 

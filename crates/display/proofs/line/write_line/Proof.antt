@@ -1,6 +1,5 @@
 -- `display::line::write_line` meets its contract: what is stored for each kind of section is its line.
 -- Assumes nothing.
-use Prim.Native.Nat.{◌+◌}
 use mathlib.Core.List.{◌++◌}
 use native.Mathlib.Omega.{arith}
 use borrow.Author.Rules.{rules}

@@ -1,6 +1,6 @@
 -- `display::number::write_decimal` meets its contract: the digits that `io::decimal` finds are those of the definition.
 -- Assumes nothing.
-use Prim.Native.Nat.{ℕ, ◌+◌}
+use Prim.Native.Nat.{ℕ}
 use mathlib.Core.List.{List}
 use mathlib.Core.Path.{◌≡◌, ap, ◌∙◌}
 use native.Mathlib.Omega.{arith}

@@ -1,11 +1,8 @@
 -- `field_writer::hex::pair` meets its contract: the low byte is the first digit, and the high one the second.
 -- Assumes nothing.
-use Prim.Native.Nat.{ℕ, ◌+◌, ◌*◌, ◌/◌, ◌%◌, ◌≤◌}
-use mathlib.Core.List.{List, [], ◌∷◌}
-use mathlib.Core.Path.{◌≡◌, ap₂}
+use Prim.Native.Nat.{◌/◌, ◌%◌}
 use native.Mathlib.Omega.{arith}
 use borrow.Author.Rules.{rules}
-use Rattle.wire.specs.Number.{bytes_of}
 use Rattle.field_writer.proofs.Fields.{digit-small, two_bytes}
 use Rattle.field_writer.proofs.hex.pair.Statement.{statement}
 use Rattle.field_writer.proofs.hex.pair.Tie as tie

@@ -2,7 +2,7 @@
 -- Assumes nothing.
 use Prim.Native.Nat.{ℕ, ◌+◌, ◌<◌}
 use mathlib.Core.Path.{◌≡◌}
-use mathlib.Core.Bool.{true, false, true≢false}
+use mathlib.Core.Bool.{false, true≢false}
 use mathlib.Core.Logic.{⊎_elim}
 use native.Mathlib.Omega.{arith}
 use borrow.Author.Rules.{rules}
@@ -47,7 +47,6 @@ pub has_any_spec : {M : Type 1} → statement M
 has_any_spec =
     tie.close
     (tie.spec
-
     (λ c κs. search rules)
     returns
     (λ c κs. search rules)

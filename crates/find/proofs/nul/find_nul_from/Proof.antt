@@ -21,7 +21,6 @@ pub find_nul_from_spec : {M : Type 1} → statement M
 find_nul_from_spec =
     tie.close
     (tie.spec
-
     returns
     (λ c. search rules)
     returns-2

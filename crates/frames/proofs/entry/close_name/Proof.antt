@@ -1,8 +1,6 @@
 -- `frames::entry::close_name` meets its contract.
 -- Assumes nothing.
-use mathlib.Core.Path.{◌≡◌, ap, ◌∙◌}
 use borrow.Author.Rules.{rules}
-use Rattle.frames.specs.Frame.{entry_framed}
 use Rattle.frames.proofs.entry.close_name.Statement.{statement}
 use Rattle.frames.proofs.entry.close_name.Tie as tie
 

@@ -11,7 +11,7 @@ returns : tie.Need-returns-then-output-at
 returns c = let a = c.before.args in (refl, sym (set_out a.output.now a.end 0 (omega arith)))
 
 pub close_text_spec : {M : Type 1} → statement M
-close_text_spec = tie.close (tie.spec 
+close_text_spec = tie.close (tie.spec
     (λ c. search rules)
     returns
     (λ c. search rules)

@@ -1,15 +1,14 @@
 -- `source_info::store_sections` meets its contract. The loop's invariant: the sections left, stored from here on, give the output that all sections give,
 -- and with those counted they are all.
 -- Assumes nothing.
-use Prim.Native.Nat.{ℕ, ◌+◌, ◌-◌, ◌≤◌, ◌<◌}
+use Prim.Native.Nat.{ℕ, ◌+◌, ◌-◌, ◌≤◌}
 use mathlib.Core.List.{List, [], ◌∷◌, ◌++◌, flat_map}
 use mathlib.Core.Path.{◌≡◌, refl, sym, ap, ◌∙◌}
 use native.Mathlib.Omega.{arith}
-use borrow.Author.Rules.{rules}
 use lib.ListN.{length, length-append}
 use lib.Seq.{sets}
 use Rattle.wire.proofs.Sets.{sets-append}
-use Rattle.format.specs.Encoding.{limit, encode_section}
+use Rattle.format.specs.Encoding.{encode_section}
 use Rattle.format.specs.Records.{sections}
 use Rattle.format.specs.Sections.{Section}
 use Rattle.from_sheet.specs.Records.{sections_from, AtSection}

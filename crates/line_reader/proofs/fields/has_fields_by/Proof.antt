@@ -1,6 +1,5 @@
 -- `has_fields_by` meets its contract: the ends tell whether there are none, one or two fields.
 -- Assumes nothing.
-use Prim.Native.Nat.{ℕ}
 use mathlib.Core.Bool.{◌&&◌}
 use mathlib.Core.Path.{◌≡◌, sym, ap, ◌∙◌}
 use native.Mathlib.Omega.{arith}

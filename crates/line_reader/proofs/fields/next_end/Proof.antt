@@ -1,9 +1,8 @@
 -- `next_end` meets its contract: the search from the next place on, or none.
 -- Assumes nothing.
-use mathlib.Core.Path.{◌≡◌, sym, ◌∙◌}
+use mathlib.Core.Path.{sym, ◌∙◌}
 use native.Mathlib.Omega.{arith}
 use borrow.Author.Rules.{rules}
-use Rattle.line_reader.specs.Ends.{next_end}
 use Rattle.line_reader.proofs.EndsLaws.{more-after, none_after}
 use Rattle.line_reader.proofs.fields.next_end.Statement.{statement}
 use Rattle.line_reader.proofs.fields.next_end.Tie as tie

@@ -1,14 +1,14 @@
 -- `terminated_utf8` meets its contract: its tests are those of `terminated_text`, at the length for the wire size less its terminator.
 -- Assumes nothing.
-use Prim.Native.Nat.{ℕ, ◌+◌, ◌-◌}
-use mathlib.Core.Path.{◌≡◌, sym, ap, ◌∙◌}
+use Prim.Native.Nat.{◌+◌, ◌-◌}
+use mathlib.Core.Path.{◌≡◌, sym, ◌∙◌}
 use native.Mathlib.Omega.{arith}
 use borrow.Author.Rules.{rules}
 use borrow.Author.Tests.{eq-eqb, ne_eqb}
 use Rattle.wire.specs.Length.{wire_size}
 use Rattle.wire.specs.Padding.{all_zero}
 use Rattle.layout.specs.Checked.{good, check, then}
-use Rattle.layout.specs.TextCheck.{check_text, verdict}
+use Rattle.layout.specs.TextCheck.{check_text}
 use Rattle.layout.specs.Spans.{part}
 use Rattle.layout.specs.declared.refusal.Refusal.TheVariants.{Padding}
 use Rattle.format.specs.Parse.{terminated_text}

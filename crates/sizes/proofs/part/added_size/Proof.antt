@@ -45,7 +45,6 @@ pub added_size_spec : {M : Type 1} → statement M
 added_size_spec =
     tie.close
     (tie.spec
-
     (λ c κs. search rules)
     (λ c. search rules)
     (λ c. search rules)

@@ -15,7 +15,7 @@ unfolding capped
 returns-2 c = rw (lt-leb _ _ c.if-number-most.false)
 
 pub cap_spec : {M : Type 1} → statement M
-cap_spec = tie.close (tie.spec 
+cap_spec = tie.close (tie.spec
     (λ c. search rules)
     (λ c. search rules)
     (λ c. search rules)

@@ -45,7 +45,6 @@ pub opened_size_spec : {M : Type 1} → statement M
 opened_size_spec =
     tie.close
     (tie.spec
-
     (λ c. search rules)
     (λ c. search rules)
     (λ c. search rules)

@@ -1,7 +1,7 @@
 -- `to_sheet::entry::write_entry` meets its contract: the word, the fields and the newline are the line of a content, or of a name.
 -- Assumes nothing.
-use Prim.Native.Nat.{ℕ, ◌+◌, ◌-◌, ◌≤◌}
-use mathlib.Core.List.{List, [], ◌∷◌, ◌++◌}
+use Prim.Native.Nat.{ℕ, ◌+◌, ◌-◌}
+use mathlib.Core.List.{List, ◌++◌}
 use mathlib.Core.Path.{◌≡◌, refl, sym, ap, ◌∙◌}
 use native.Mathlib.Omega.{arith}
 use borrow.Author.Rules.{rules}
@@ -10,10 +10,10 @@ use lib.Seq.{sets}
 use Rattle.wire.specs.Number.{u32_at}
 use Rattle.layout.specs.Spans.{part}
 use Rattle.format.specs.Display.{ascii, decimal}
-use Rattle.sheet.specs.Fields.{hex_pairs, escape}
+use Rattle.sheet.specs.Fields.{escape}
 use Rattle.sheet.specs.Lines.{line}
 use Rattle.sheet.specs.SheetWalk.{content_at, name_at}
-use Rattle.to_sheet.specs.Entry.{sheet_limit, entry_at}
+use Rattle.to_sheet.specs.Entry.{entry_at}
 use Rattle.to_sheet.proofs.LineParts.{Stored, first-stored, then-stored, field, end, one_field, two_fields}
 use Rattle.to_sheet.proofs.entry.write_entry.Statement.{statement}
 use Rattle.to_sheet.proofs.entry.write_entry.Tie as tie

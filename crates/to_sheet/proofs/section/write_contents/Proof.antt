@@ -2,7 +2,7 @@
 -- ones are one line.
 -- Assumes nothing.
 use Prim.Native.Nat.{ℕ, ◌+◌, ◌≤◌}
-use mathlib.Core.List.{List, [], ◌∷◌, ◌++◌, flat_map, append-nil}
+use mathlib.Core.List.{List, ◌++◌, flat_map, append-nil}
 use mathlib.Core.Path.{◌≡◌, refl, sym, ap, ◌∙◌}
 use native.Mathlib.Omega.{arith}
 use borrow.Author.Rules.{rules}
@@ -17,7 +17,7 @@ use Rattle.format.specs.Display.{ascii, decimal}
 use Rattle.format.specs.Walk.{compression_at, entries_end}
 use Rattle.format.proofs.WalkLaws.{contents-within}
 use Rattle.sheet.specs.Lines.{line}
-use Rattle.sheet.specs.SheetWalk.{content_at, plain_at, packed_at, contents_records}
+use Rattle.sheet.specs.SheetWalk.{content_at, packed_at, contents_records}
 use Rattle.to_sheet.specs.Entry.{sheet_limit}
 use Rattle.to_sheet.proofs.LineParts.{Stored, first-stored, then-stored, field, end, one_field}
 use Rattle.to_sheet.proofs.LineWalk.{entry_lines}

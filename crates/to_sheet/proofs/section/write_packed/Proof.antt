@@ -1,7 +1,7 @@
 -- `to_sheet::section::write_packed` meets its contract: the word, three numbers, the bytes and the newline are its line.
 -- Assumes nothing.
-use Prim.Native.Nat.{ℕ, ◌+◌, ◌-◌, ◌≤◌}
-use mathlib.Core.List.{List, [], ◌∷◌, ◌++◌}
+use Prim.Native.Nat.{ℕ, ◌+◌, ◌≤◌}
+use mathlib.Core.List.{List, ◌++◌}
 use mathlib.Core.Path.{◌≡◌, refl, sym, ap, ◌∙◌}
 use native.Mathlib.Omega.{arith}
 use borrow.Author.Rules.{rules}
@@ -10,7 +10,7 @@ use lib.Seq.{sets}
 use Rattle.wire.specs.Number.{u32_at}
 use Rattle.layout.specs.Spans.{part}
 use Rattle.format.specs.Display.{ascii, decimal}
-use Rattle.sheet.specs.Fields.{hex_pairs, escape}
+use Rattle.sheet.specs.Fields.{hex_pairs}
 use Rattle.sheet.specs.Lines.{line}
 use Rattle.sheet.specs.SheetWalk.{packed_at}
 use Rattle.to_sheet.specs.Entry.{sheet_limit}

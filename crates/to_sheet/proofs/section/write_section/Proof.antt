@@ -1,27 +1,23 @@
 -- `to_sheet::section::write_section` meets its contract: each kind of section has the lines of the definition, and what it holds ends within its size.
 -- Assumes nothing.
 use Prim.Native.Nat.{ℕ, ◌+◌, ◌≤◌}
-use mathlib.Core.List.{List, [], ◌∷◌, ◌++◌, map, flat_map, append-nil}
+use mathlib.Core.List.{List, ◌++◌, flat_map, append-nil}
 use mathlib.Core.Path.{◌≡◌, refl, sym, ap, ◌∙◌}
 use native.Mathlib.Omega.{arith}
 use borrow.Author.Rules.{rules}
 use lib.ListN.{length, length-append}
 use lib.Seq.{sets}
 use Rattle.wire.specs.Number.{u32_at}
-use Rattle.layout.specs.declared.section_type.SourceInfoSectionType.{SourceInfoSectionType}
-use Rattle.layout.specs.declared.section_type.SourceInfoSectionType.TheVariants.{SourceContents, SourceNames, Arguments, Unknown}
+use Rattle.layout.specs.declared.section_type.SourceInfoSectionType.TheVariants.{SourceNames, Arguments, Unknown}
 use Rattle.layout.proofs.Checked.{is-good}
 use Rattle.format.specs.Display.{ascii}
 use Rattle.format.specs.Parse.{parse_section}
-use Rattle.format.specs.PublicFacts.{pairs_at}
-use Rattle.format.specs.Records.{pair_record}
-use Rattle.format.specs.Walk.{compression_at, entries_end}
+use Rattle.format.specs.Walk.{entries_end}
 use Rattle.format.proofs.Walking.{pairs-forward}
 use Rattle.format.proofs.WalkLaws.{names-walk, arguments-walk}
 use Rattle.sheet.specs.Lines.{line}
-use Rattle.sheet.specs.SheetWalk.{name_at, unknown_at, contents_records, section_records}
-use Rattle.to_sheet.specs.Entry.{sheet_limit}
-use Rattle.to_sheet.proofs.LineParts.{Stored, first-stored, then-stored, end}
+use Rattle.sheet.specs.SheetWalk.{name_at, unknown_at, section_records}
+use Rattle.to_sheet.proofs.LineParts.{Stored, first-stored, then-stored}
 use Rattle.to_sheet.proofs.LineWalk.{entry_lines, pair_lines}
 use Rattle.to_sheet.proofs.section.write_section.Statement.{statement}
 use Rattle.to_sheet.proofs.section.write_section.Tie as tie

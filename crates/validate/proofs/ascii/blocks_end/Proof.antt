@@ -1,6 +1,6 @@
 -- `validate::ascii::blocks_end` meets its contract. The loop's invariant: the bytes of the blocks that were passed are ASCII.
 -- Assumes nothing.
-use Rattle.std.specs.Prelude.{◌≡◌, ℕ, ◌+◌, ◌-◌, ◌<◌, ◌≤◌, length, get_or}
+use Rattle.std.specs.Prelude.{ℕ, ◌-◌, ◌<◌, ◌≤◌, length, get_or}
 use native.Mathlib.Omega.{arith}
 use Rattle.validate.proofs.Runs.{below-block}
 use Rattle.validate.proofs.ascii.blocks_end.Statement.{statement}

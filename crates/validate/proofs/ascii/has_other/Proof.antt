@@ -6,7 +6,6 @@ use mathlib.Core.Bool.{true≢false}
 use mathlib.Core.Logic.{⊎_elim}
 use native.Mathlib.Omega.{arith}
 use borrow.Author.Count.{below_more}
-use borrow.Author.Tests.{leb-false}
 use Rattle.validate.proofs.ascii.has_other.Statement.{statement}
 use Rattle.validate.proofs.ascii.has_other.Tie as tie
 

@@ -1,6 +1,6 @@
 -- `validate::rule::starts_wrong` meets its contract: before the start of a text three zeros count as its bytes.
 -- Assumes nothing.
-use Rattle.std.specs.Prelude.{◌≡◌, ℕ, zero, suc, ◌<◌, true, false, List, get_or}
+use Rattle.std.specs.Prelude.{◌≡◌, ℕ, zero, suc, ◌<◌, true, List, get_or}
 use native.Mathlib.Omega.{arith}
 use borrow.Author.Rules.{rules}
 use Rattle.validate.specs.Rule.{right, right_at}

@@ -22,7 +22,6 @@ pub advance_spec : {M : Type 1} → statement M
 advance_spec =
     tie.close
     (tie.spec
-
     (λ c κs. search rules)
     (λ c κs. search rules)
     (λ c κs. search rules)

@@ -16,7 +16,6 @@ pub begin_spec : {M : Type 1} → statement M
 begin_spec =
     tie.close
     (tie.spec
-
     (λ c. search rules)
     (λ c. search rules)
     (λ c κs. search rules)

@@ -36,7 +36,6 @@ pub extend_spec : {M : Type 1} → statement M
 extend_spec =
     tie.close
     (tie.spec
-
     (λ c. search rules)
     (λ c κs. search rules)
     add-cap

@@ -50,7 +50,6 @@ pub finish_spec : {M : Type 1} → statement M
 finish_spec =
     tie.close
     (tie.spec
-
     (λ c. search rules)
     (λ c. search rules)
     (λ c κs. search rules)

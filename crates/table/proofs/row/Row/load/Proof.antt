@@ -23,7 +23,6 @@ pub load_spec : {M : Type 1} → statement M
 load_spec =
     tie.close
     (tie.spec
-
     returns
     (λ c. search rules)
     (λ c. search rules)

@@ -13,7 +13,6 @@ pub from_u32_spec : {M : Type 1} → statement M
 from_u32_spec =
     tie.close
     (tie.spec
-
     (λ c. search rules)
     (λ c. search rules)
     (λ c. search rules)
