@@ -143,17 +143,26 @@ fn decode(text: &[u8], out: &mut [u8]) -> usize
     count
 }
 
+fn print_number<W: Write>(out: &mut W, number: u32) -> io::Result<()> {
+    write!(out, "{number}")
+}
+
 // Each with a space before it.
 fn print_numbers<W: Write>(out: &mut W, numbers: &[u32]) -> io::Result<()> {
     for number in numbers {
-        write!(out, " {number}")?;
+        out.write_all(b" ")?;
+        print_number(out, *number)?;
     }
     Ok(())
 }
 
+fn print_byte<W: Write>(out: &mut W, byte: u8) -> io::Result<()> {
+    write!(out, "{byte:02x}")
+}
+
 fn print_bytes<W: Write>(out: &mut W, bytes: &[u8]) -> io::Result<()> {
     for byte in bytes {
-        write!(out, "{byte:02x}")?;
+        print_byte(out, *byte)?;
     }
     Ok(())
 }
@@ -202,9 +211,10 @@ fn stored(answer: Answer, most: usize) -> usize
 
 // The two numbers of an answer, each with a space after it.
 fn print_answer<W: Write>(out: &mut W, answer: Answer) -> io::Result<()> {
-    let number = answer.number();
-    let second = answer.second();
-    write!(out, "{number} {second} ")
+    print_number(out, answer.number())?;
+    out.write_all(b" ")?;
+    print_number(out, answer.second())?;
+    out.write_all(b" ")
 }
 
 fn print_table<W: Write>(out: &mut W, table: &[u32; NUMBERS], stored: usize) -> io::Result<()>

@@ -1,5 +1,5 @@
 -- Measuring, record by record: what is kept, how a record changes it, and what it comes to. That this is the length of what the records' sections
--- encode to is a theorem (proofs/Measured.antt).
+-- encode to is a theorem (proofs/MeasuredRecords.antt).
 use Rattle.std.specs.Prelude.{ℕ, ◌+◌, Bool, false, cond, not, ◌&&◌, ◌||◌, List, [], ◌∷◌, leb, ltb, length}
 use Rattle.wire.specs.Length.{wire_size}
 use Rattle.wire.specs.Padding.{aligned}

@@ -3,7 +3,7 @@
 //
 // Proved: every function is total, and gives just what its definition in specs/ says; those that another crate can call
 // have no `requires`. Measuring records in order gives the length of the encoding of their sections, or refuses where
-// they are not within the limits (proofs/Measured.antt). Nothing is assumed.
+// they are not within the limits (proofs/MeasuredRecords.antt). Nothing is assumed.
 #![tactic(auto)]
 
 mod part;
