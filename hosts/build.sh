@@ -33,10 +33,10 @@ told_by() {
 }
 
 [ "$(uname -sm)" = "Linux x86_64" ] || lacking "this is $(uname -sm), and the library is compiled for Linux x86_64"
-kit=$(told_by rt --version) && [[ $kit == rattle* ]] || lacking \
+kit=$(told_by rt version) && [[ $kit == rattle* ]] || lacking \
     "it needs rt, the command of the Rattle kit; here is ${kit:-none that runs}." \
-    "rt comes with the kit, a folder with bin/, docs/ and logic/, from those who make Rattle." \
-    "Put its bin/ on PATH; 'rt --version' then prints the kit's name." \
+    "rt comes with the kit, a folder with bin/, rattle/ and toolchain/, from those who make Rattle." \
+    "Put its bin/ on PATH; 'rt version' then prints the kit's name." \
     "Without it, use what hosts/package.sh has made where there is one."
 gcc=$(told_by gcc --version) || lacking \
     "it needs gcc; here is none that runs." \
@@ -53,39 +53,43 @@ printf '%s\n' "rt:    $kit" "gcc:   $gcc" "rustc: $rustc"
 # ---- the library
 
 not_proved() {
-    tail -n 20 "$log" >&2
+    # what is proved, and how much was read for it, tells nothing of what is not
+    sed -E '/^(logic|statements|library|crate|axioms) |: proved$/d' "$log" | tail -n 20 >&2
     echo "the library is not proved; $log tells all" >&2
     exit 1
 }
 
-# Of the lines of `rt check` on standard input, shows those that tell of a crate which was proved now.
+# Of the lines of `rt lib` on standard input, shows each crate that was proved now, with the seconds that it took. Of a
+# crate that is as it was proved before there is no line.
 show_proved() {
-    local crates=1 proved=0 unchanged=0 name line
-    for name in $(sed -n 's/^srci://p' crates.txt); do
+    local crates=1 proved=0 crate= began=0 name line
+    for name in $(sed -n 's/^srci staticlib://p' crates.txt); do
         if [ -d "crates/$name" ]; then crates=$((crates + 1)); fi
     done
     while IFS= read -r line; do
-        [[ $line =~ ^rt:\ ([a-z0-9_]+)\ proved\ \((.*)\)$ ]] || continue
-        proved=$((proved + 1))
-        case ${BASH_REMATCH[2]} in
-        unchanged*) unchanged=$((unchanged + 1)) ;;
-        *) printf '[%2d/%d] %s (%s)\n' "$proved" "$crates" "${BASH_REMATCH[1]}" "${BASH_REMATCH[2]}" ;;
-        esac
+        if [[ $line =~ ^rt:\ chose\ --jobs\ [0-9]+\ for\ ([a-z0-9_]+)$ ]]; then
+            crate=${BASH_REMATCH[1]}
+            began=$SECONDS
+        elif [[ $crate && $line == "logic=proved "* ]]; then
+            proved=$((proved + 1))
+            printf '[%2d/%d] %s (%d s)\n' "$proved" "$crates" "$crate" "$((SECONDS - began))"
+            # the last
+            if [ "$crate" = srci ] && ((proved < crates)); then
+                echo "$((crates - proved)) of $crates crates are as they were proved before"
+            fi
+        fi
     done
-    if ((unchanged > 0)); then echo "$unchanged of $crates crates are as they were proved before"; fi
 }
 
 # the package holds what is here now, and nothing that was
 rm -rf "$out/python"
 mkdir -p "$out"/{bin,include,lib,rust,python/srci,share/man/man1,share/bash-completion/completions}
 echo "proving the library .. (the first time it takes some minutes, with a line for each crate)"
-# `rt check` proves crates side by side, and `rt staticlib` then finds them proved
-rt check srci 2>&1 | tee "$log" | show_proved || not_proved
-echo "compiling the library .."
-rt staticlib srci >> "$log" 2>&1 || not_proved
+# for any x86-64 processor: by default rt compiles for newer ones, and a library does not look where it runs
+(cd crates/srci && rt lib --cpu x86-64) 2>&1 | tee "$log" | show_proved || not_proved
 
 cp hosts/c/srci.h "$out/include/"
-cp target/staticlib/libsrci.a "$out/lib/"
+cp crates/srci/out/libsrci.a "$out/lib/"
 cp hosts/python/srci/*.py hosts/python/srci/py.typed "$out/python/srci/"
 shared() { gcc -shared -Wl,--whole-archive "$out/lib/libsrci.a" -Wl,--no-whole-archive "$@"; }
 shared -o "$out/python/srci/libsrci.so"

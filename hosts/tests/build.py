@@ -3,6 +3,7 @@ says of those that are missing or too old, what it shows while the library is pr
 import contextlib
 import os
 import pathlib
+import re
 import shutil
 import subprocess
 import tempfile
@@ -12,34 +13,58 @@ ROOT = pathlib.Path(__file__).resolve().parents[2]
 VERSION = (ROOT / "hosts/tables/version.txt").read_text().strip()
 BASH = shutil.which("bash")
 # srci and the crates that it needs, by their list
-NEEDED = (ROOT / "crates.txt").read_text().split("\nsrci:")[1].split("\n")[0].split()
+NEEDED = (ROOT / "crates.txt").read_text().split("\nsrci staticlib:")[1].split("\n")[0].split()
 CRATES = 1 + sum((ROOT / "crates" / name).is_dir() for name in NEEDED)
 
 
-def tool(version, *lines):
+def tool(version, *lines, asked="--version"):
     """A tool that tells a version, and else runs these lines."""
-    return "\n".join([f"if [ \"$*\" = --version ]; then printf '{version}\\nmore\\n'; exit; fi", *lines])
+    return "\n".join([f"if [ \"$*\" = {asked} ]; then printf '{version}\\nmore\\n'; exit; fi", *lines])
 
 
-RT, GCC, RUSTC = tool("rattle-kit-9 logic 12"), tool("gcc (Made) 12.2.0"), tool("rustc 1.77.0 (aedd173a2)")
+def kit(*lines):
+    return tool("rattle-kit-9 logic 12", *lines, asked="version")
 
-# Proves three crates, the third when a line is typed, and fails at the fourth when another is.
-FAILS = tool(
-    "rattle-kit-9 logic 12",
-    "[ \"$*\" = 'check srci' ] || exit 9",
-    "echo 'rt: utf8 proved (unchanged since it was last proved)'",
+
+RT, GCC, RUSTC = kit(), tool("gcc (Made) 12.2.0"), tool("rustc 1.77.0 (aedd173a2)")
+
+# How the archive is asked for.
+ASKED = "[ \"$*\" = 'lib --cpu x86-64' ] && [ \"${PWD%/crates/srci}\" != \"$PWD\" ] || exit 9"
+# Proves two crates, the second when a line is typed, and in two seconds; fails at the third when another is, and then
+# tells more of what it has read than anyone wants.
+FAILS = kit(
+    ASKED,
+    "echo 'rt: utf8: begins with what a check kept in crates/utf8'",
+    "echo 'only=0 proved=0'",
+    "echo 'logic=proved functions=7 sum=12'",
+    "echo 'rt: chose --jobs 2 for wire'",
     "echo 'fn wire::read: proved'",
-    "echo 'rt: wire proved (16 s)'",
+    "echo 'crate wire: modules loaded=1 checked=2'",
+    "echo 'logic=proved functions=19 sum=12 native=nat'",
+    "echo 'rt: chose --jobs 4 for section_reader'",
     "read -r line",
-    "echo 'rt: section_reader proved (101 s)'",
+    "sleep 2",
+    "echo 'logic=proved functions=0 sum=12'",
+    "echo 'rt: chose --jobs 2 for parse'",
     "read -r line",
     "echo 'a goal is open' >&2",
-    "echo 'rt: parse NOT PROVED (exit 1, 3 s)'",
+    "echo 'fn parse::parse_srci: not proved'",
+    "for name in 1 2 3 4 5 6 7 8 9 10 11; do",
+    "    echo \"fn parse::well_$name: proved\"",
+    "    echo \"library below_$name: modules loaded=1 checked=0\"",
+    "done",
+    "echo 'logic=not-proved'",
+    "echo 'rt: the library parse did not build, so nothing above it was checked' >&2",
     "exit 1",
 )
-PROVES = tool(
-    "rattle-kit-9 logic 12",
-    "if [ \"$*\" = 'staticlib srci' ]; then mkdir -p target/staticlib && touch target/staticlib/libsrci.a; fi",
+# Proves two crates, and makes the archive.
+PROVES = kit(
+    ASKED,
+    "echo 'rt: chose --jobs 2 for card'",
+    "echo 'logic=proved functions=8 sum=12'",
+    "echo 'rt: chose --jobs 2 for srci'",
+    "echo 'logic=proved functions=8 target=x86_64-unknown-linux-gnu sum=12'",
+    "mkdir -p out && touch out/libsrci.a",
 )
 # Makes a file of its words, and a program that prints its own.
 LINKS = tool(
@@ -95,9 +120,9 @@ def says(status, *said, **tools):
 
 
 def test_tools():
-    kit = ["hosts/build.sh: it needs rt", "the kit, a folder with bin/, docs/ and logic/", "Put its bin/ on PATH"]
-    says(2, *kit, "here is none", gcc=GCC, rustc=RUSTC)
-    says(2, *kit, "here is RT 4.4", rt="echo RT 4.4", gcc=GCC, rustc=RUSTC)
+    lacks = ["hosts/build.sh: it needs rt", "kit, a folder with bin/, rattle/ and toolchain/", "Put its bin/ on PATH"]
+    says(2, *lacks, "here is none", gcc=GCC, rustc=RUSTC)
+    says(2, *lacks, "here is RT 4.4", rt="echo RT 4.4", gcc=GCC, rustc=RUSTC)
     says(2, "it needs gcc; here is none", "It comes with", rt=RT, rustc=RUSTC)
     needed = "it needs rustc 1.77 or newer; here is"
     says(2, f"{needed} none", "It comes with", rt=RT, gcc=GCC)
@@ -108,18 +133,37 @@ def test_tools():
         assert out.splitlines()[:3] == found, out
 
 
+def shows(line, place, crate, least):
+    """Expects a line of a crate that was proved now, in so many seconds or more."""
+    found = re.fullmatch(rf"\[ {place}/{CRATES}\] {crate} \((\d+) s\)\n?", line)
+    assert found and int(found[1]) >= least, line
+
+
 def test_proofs_are_shown_as_they_come():
     with started(rt=FAILS, gcc=GCC, rustc=RUSTC) as (folder, run):
         shown = [run.stdout.readline() for _ in range(5)]
-        assert shown[3].startswith("proving the library") and shown[4] == f"[ 2/{CRATES}] wire (16 s)\n", shown
+        assert shown[3].startswith("proving the library"), shown
+        shows(shown[4], 1, "wire", 0)
         run.stdin.write("\n")
         run.stdin.flush()
-        assert run.stdout.readline() == f"[ 3/{CRATES}] section_reader (101 s)\n"
+        shows(run.stdout.readline(), 2, "section_reader", 2)
         out, err = run.communicate("\n")
         log = (folder / "build/proofs.log").read_text()
-    assert (run.returncode, out) == (1, f"1 of {CRATES} crates are as they were proved before\n"), (run.returncode, out)
-    assert "a goal is open\nrt: parse NOT PROVED (exit 1, 3 s)\n" in err and "build/proofs.log tells all" in err, err
-    assert "fn wire::read: proved" in log
+    assert (run.returncode, out) == (1, ""), (run.returncode, out)
+    last = "a goal is open\nfn parse::parse_srci: not proved\nlogic=not-proved\nrt: the library parse did not build"
+    assert f"\n{last}" in err, err
+    assert "build/proofs.log tells all" in err and "well_" not in err and "below_" not in err, err
+    assert "fn wire::read: proved" in log and "fn parse::well_11: proved" in log and "library below_11:" in log
+
+
+def test_crates_that_are_as_they_were():
+    with started(rt=PROVES, gcc=GCC, rustc=LINKS) as (_, run):
+        out, err = run.communicate()
+    assert (run.returncode, err) == (0, ""), err
+    first, last, left = out.splitlines()[4:7]
+    shows(first, 1, "card", 0)
+    shows(last, 2, "srci", 0)
+    assert left == f"{CRATES - 2} of {CRATES} crates are as they were proved before", out
 
 
 def test_the_command_with_and_without_a_static_c_library():

@@ -57,14 +57,28 @@ def same(what, found, expected):
     print(f"ok: {what}: {len(found)}")
 
 
+def told_by(*words):
+    return subprocess.run([*words, ARCHIVE], capture_output=True, text=True, check=True).stdout
+
+
 def symbols(option, kind):
-    told = subprocess.run(["nm", option, ARCHIVE], capture_output=True, text=True, check=True).stdout
-    return sorted(re.findall(rf" {kind} (\w+)", told))
+    return sorted(re.findall(rf" {kind} (\w+)", told_by("nm", option)))
+
+
+# Instructions that not every x86-64 processor has.
+LATER = "|".join([
+    r"(?:addsub|hadd|hsub)p[sd]|lddqu|mov(?:d|sh|sl)dup",  # SSE3
+    r"pabs[bdw]|ph(?:add|sub)s?[dw]|psign[bdw]|pmaddubsw|pmulhrsw|pshufb|palignr",  # SSSE3
+    r"p?blend\w+|dpp[sd]|(?:extract|insert)ps|p(?:extr|insr)[bdq]|pm(?:ax|in)(?:sb|sd|ud|uw)|pmov[sz]x\w+",  # SSE4
+    r"movntdqa|mpsadbw|packusdw|pcmp(?:eq|gt)q|phminposuw|pmul(?:dq|ld)|ptest|round[ps][sd]|pcmp[ei]str[im]|crc32\w?",
+    r"v\w+|popcnt|lzcnt|andn|bextr|bls\w+|bzhi|mulx|pdep|pext|rorx|s[ah][lr]x|movbe\w?|cmpxchg16b",  # AVX, and others
+])
 
 
 # ---- entry points
 
-rattle = functions(r'pub extern "C" fn (\w+)(?:<\'a>)?\(([^)]*)\) -> u32', text("crates/srci/src/lib.rt"))
+exported = r'#\[unsafe\(no_mangle\)\]\npub extern "C" fn (\w+)(?:<\'a>)?\(([^)]*)\) -> u32'
+rattle = functions(exported, text("crates/srci/src/lib.rt"))
 entries = {name: list(passed(parameters)) for name, parameters in rattle.items()}
 assert len(entries) == 7
 
@@ -85,6 +99,9 @@ for way in ("keeping", "releasing"):
 assert symbols("--defined-only", "[A-Z]") == symbols("--defined-only", "T"), "the archive has more than functions"
 same("in the archive", symbols("--defined-only", "T"), sorted(entries))
 same("what the archive needs", symbols("--undefined-only", "U"), ["memcpy", "memset"])
+instructions = re.findall(r"^ +[0-9a-f]+:\t(\w+)", told_by("objdump", "-d", "--no-show-raw-insn"), re.M)
+assert len(instructions) > 1000
+same("instructions that some processors lack", sorted({word for word in instructions if re.fullmatch(LATER, word)}), [])
 
 # ---- numbers
 

@@ -1,23 +1,29 @@
 #!/usr/bin/env bash
-# Sums a gate's log by crate: seconds to prove it, its must-fail edits, seconds for these.
+# Sums by crate what the gate prints while it runs: after how many seconds the crate was proved, its functions, and its
+# must-fail edits that were refused.
 #
-#   .ci/run > LOG; tests/gate/times.sh LOG
+#   .ci/run | tests/gate/times.sh
 #
-# The gate runs two checks at a time, so that the sums are more than the time that it took.
+# `rt ci` tells no times, so that the seconds are those until a crate's line came: from the start, and not from where its
+# own proof began, since several crates are proved at once. The edits' lines come together at the end, so no time is told
+# of these. A crate that an earlier run proved is told as kept.
 set -eu
-[ $# -eq 1 ] && [ -f "$1" ] || { sed -n '4s/^# *//p' "$0" >&2; exit 2; }
-awk '
-    function seconds() { match($0, /[0-9]+ s\)$/); return substr($0, RSTART, RLENGTH) + 0 }
+[ $# -eq 0 ] && [ ! -t 0 ] || { sed -n '5s/^# *//p' "$0" >&2; exit 2; }
+while IFS= read -r line || [ -n "$line" ]; do printf '%d %s\n' "$SECONDS" "$line"; done | awk '
     function seen(crate) { if (!(crate in order)) { order[crate] = ++crates; name[crates] = crate } }
-    /^rt: [a-z0-9_]+ proved \([0-9]+ s\)$/ { seen($2); prove[$2] += seconds() }
-    /^rt: must-fail [a-z0-9_]+\/.*[0-9]+ s\)$/ { split($3, of, "/"); seen(of[1]); edits[of[1]]++; tried[of[1]] += seconds() }
+    { after = $1; sub(/^[0-9]+ /, "") }
+    /^== / { functions = 0 }
+    /^logic=proved functions=[0-9]+ / { split($2, of, "="); functions = of[2] }
+    /^rt: [a-z0-9_]+ proved$/ { seen($2); proved[$2] = after; has[$2] = functions }
+    /^rt: [a-z0-9_]+ is kept: / { seen($2); proved[$2] = "kept"; has[$2] = "kept" }
+    /^rt: must-fail [a-z0-9_]+\/[^ ]+: refused, / { split($3, of, "/"); seen(of[1]); edits[of[1]]++ }
     END {
-        print "| crate | prove, s | edits | edits, s |"
+        print "| crate | proved after, s | functions | edits |"
         print "|---|--:|--:|--:|"
         for (i = 1; i <= crates; i++) {
             crate = name[i]
-            printf "| `%s` | %d | %d | %d |\n", crate, prove[crate], edits[crate], tried[crate]
-            p += prove[crate]; n += edits[crate]; t += tried[crate]
+            printf "| `%s` | %s | %s | %d |\n", crate, proved[crate], has[crate], edits[crate]
+            f += has[crate]; n += edits[crate]
         }
-        printf "| all | %d | %d | %d |\n", p, n, t
-    }' "$1"
+        printf "| all | %d | %d | %d |\n", after, f, n
+    }'

@@ -8,12 +8,13 @@
 #   tests/oracle/run.sh PATH_TO_SRCI_RS copies COUNT SEED   print calls of making public copies with the answers that the Rust gives
 #   tests/oracle/run.sh PATH_TO_SRCI_RS cards COUNT SEED    print calls of making cards with the answers that the Rust gives
 #
-# It needs rustc, and for the first two target/staticlib/libsrci.a, which `rt staticlib srci` makes.
+# It needs rustc, and for the first two crates/srci/out/libsrci.a, which `rt lib --cpu x86-64` makes in crates/srci: for
+# any x86-64 processor, as rustc compiles the Rust.
 set -eu
 [ $# -ge 2 ] || { sed -n '4,9s/^# *//p' "$0" >&2; exit 2; }
 here=$(cd "$(dirname "$0")" && pwd)
 build=$here/../../target/oracle
-library=$here/../../target/staticlib
+library=$here/../../crates/srci/out
 [ -f "$1" ] || { echo "no file $1" >&2; exit 2; }
 mkdir -p "$build"
 # chunks.rs names srci.rs by this link; the file itself is read where it stands, as it is
@@ -29,7 +30,7 @@ rows | listings | copies | cards)
     ;;
 esac
 if [ ! -f "$library/libsrci.a" ]; then
-    echo "no target/staticlib/libsrci.a: run 'rt staticlib srci' first" >&2
+    echo "no crates/srci/out/libsrci.a: run 'rt lib --cpu x86-64' in crates/srci first" >&2
     exit 2
 fi
 rust --crate-type rlib --crate-name srci -L "native=$library" "$here/../../hosts/rust/src/lib.rs"

@@ -330,5 +330,4 @@ if __name__ == "__main__":
     crates = pathlib.Path(__file__).resolve().parents[2] / "crates"
     assert stored(crates / "list_payload") == (SAMPLE, SAMPLE_PRINTED)
     assert stored(crates / "show_card") == (payload(*SHOWN), SHOWN_CARD)
-    folder = pathlib.Path(sys.argv[1]).resolve()
-    sys.exit(main([folder / name for name in ("list_payload", "show_card")]))
+    sys.exit(main([pathlib.Path(program).absolute() for program in sys.argv[1:]]))

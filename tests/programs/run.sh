@@ -3,13 +3,15 @@
 #
 #   tests/programs/run.sh [FOLDER]
 #
-# FOLDER holds the programs; it is target/bin where none is named, and `rt check list_payload show_card` makes them
-# there. The inputs and what is expected of them are in cases.py. A line is printed for each case, and 'N passed, M
-# failed' at the end.
+# FOLDER holds the programs. Where none is named they are crates/list_payload/out/list_payload and
+# crates/show_card/out/show_card, which `rt run < stdin` leaves there when it is run in each crate's folder. The inputs and
+# what is expected of them are in cases.py. A line is printed for each case, and 'N passed, M failed' at the end.
 set -eu
 here=$(cd "$(dirname "$0")" && pwd)
-folder=${1:-$here/../../target/bin}
-for program in list_payload show_card; do
-    [ -x "$folder/$program" ] || { echo "no program $folder/$program: run 'rt check $program' first" >&2; exit 2; }
+programs=()
+for name in list_payload show_card; do
+    program=${1:-$here/../../crates/$name/out}/$name
+    [ -x "$program" ] || { echo "no program $program: run 'rt run < stdin' in crates/$name first" >&2; exit 2; }
+    programs+=("$program")
 done
-exec python3 -B "$here/cases.py" "$folder"
+exec python3 -B "$here/cases.py" "${programs[@]}"

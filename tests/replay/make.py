@@ -1,6 +1,7 @@
 #!/usr/bin/env python3
 r"""Writes the calls and the expected answers of the program replay.
 
+    mkdir -p target
     tests/oracle/run.sh PATH_TO_SRCI_RS rows 300 1 > target/rows.tsv
     tests/oracle/run.sh PATH_TO_SRCI_RS listings 100 2 > target/listings.tsv
     tests/oracle/run.sh PATH_TO_SRCI_RS copies 100 3 > target/copies.tsv
