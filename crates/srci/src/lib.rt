@@ -1,4 +1,4 @@
-// The C entry points: for C and Rust programs, which link target/staticlib/libsrci.a.
+// The C entry points: for C and Rust programs, which link libsrci.a.
 //
 // A slice passes as a pointer and a length in elements. No function has a `requires`: every byte string
 // and every table may be passed.

@@ -1,4 +1,4 @@
-// The check of UTF-8 for host programs, which link target/staticlib/libutf8_host.a: by it tests/utf8 times the check
+// The check of UTF-8 for host programs, which link libutf8_host.a: by it tests/utf8 times the check
 // beside that of Rust's core, and compares the two.
 #![tactic(auto)]
 
