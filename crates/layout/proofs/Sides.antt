@@ -13,3 +13,6 @@ module _ (payload edit : List ℕ) where
   unfolding side_of
   side_of-edit zero h = absurd (h refl)
   side_of-edit (suc n) h = refl
+
+-- which bytes each side names
+pub ruleset sides = (side_of-payload, side_of-edit)

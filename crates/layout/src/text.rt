@@ -5,6 +5,7 @@ ghost use Rattle.layout.specs.Spans.{span, part, span_bytes};
 use wire::TextLength;
 
 // The `count` bytes from `start` on of one of two slices; fewer where it ends before.
+#[tactic(auto, using(crate::proofs::Sides::sides))]
 pub fn bytes_of<'a>(
     payload: &'a [u8],
     edit: &'a [u8],

@@ -25,7 +25,8 @@ pub fn list(payload: &[u8], output: &mut [u8]) -> Answer
         Counted::Refused(refusal) => Answer::Refused(refusal),
         Counted::Rows(_) => {
             let size = source_info::write_display(payload, &mut output[..0]);
-            if output.len() < size as usize {
+            let room = output.len();
+            if room < size as usize {
                 return Answer::Refused(Refusal::NoRoom(size));
             }
             source_info::write_display(payload, output);

@@ -27,7 +27,8 @@ pub fn public_copy(payload: &[u8], output: &mut [u8]) -> Answer
         Counted::Refused(refusal) => Answer::Refused(refusal),
         Counted::Rows(_) => {
             let size = source_info::copy_srci(payload, &mut output[..0]);
-            if output.len() < size as usize {
+            let room = output.len();
+            if room < size as usize {
                 return Answer::Refused(Refusal::NoRoom(size));
             }
             source_info::copy_srci(payload, output);

@@ -45,6 +45,7 @@ fn measure_rows(payload: &[u8], edit: &[u8], rows: &[u32]) -> Measured
 }
 
 // The bytes that the rows of a table would be written as: how many, or the first fault.
+#[tactic(auto, unfolding(format::specs::Write::written_table, layout::specs::Checked::check))]
 pub fn measure(payload: &[u8], edit: &[u8], rows: &[u32]) -> Measured
     ensures { result ≡ sized (written_table payload.now edit.now rows.now) }
 {

@@ -95,6 +95,7 @@ impl Sizes {
     }
 
     // The size in the end, within the limits.
+    #[tactic(auto, unfolding(crate::specs::Measure::finish, layout::specs::Checked::check))]
     pub fn finish(self) -> Measured
         ensures { result ≡ measured (finish self) }
     {

@@ -26,7 +26,8 @@ pub fn to_sheet(payload: &[u8], output: &mut [u8]) -> Answer
         Counted::Refused(refusal) => Answer::Refused(refusal),
         Counted::Rows(_) => {
             let size = source_info::write_sheet(payload, &mut output[..0]);
-            if output.len() < size as usize {
+            let room = output.len();
+            if room < size as usize {
                 return Answer::Refused(Refusal::NoRoom(size));
             }
             source_info::write_sheet(payload, output);

@@ -31,6 +31,9 @@ unfolding terminated
 terminated-past zero h = refl
 terminated-past (suc n) h = rw (le-ltb n (2 ^ 32) (le_of_suc-le-suc h), terminated)
 
+-- what a size has
+pub ruleset text_lengths = (terminated-past, terminated-wire_size)
+
 -- of the sizes that a number of 32 bits can hold, only 0 has none
 pub no_text : (s : ℕ) → s < 2 ^ 32 → terminated s ≡ Nothing → s ≡ 0
 no_text zero h e = refl

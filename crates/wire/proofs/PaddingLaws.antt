@@ -76,3 +76,6 @@ all_zero-at-zero s i h e = rw (add-one, drop-cons s i 0 h, e)
 pub all_zero-at-other : (s : List ℕ) (i : ℕ) → i < length s → (get_or s i 0 ≡ 0 → ⊥) → all_zero (drop i s) ≡ false
 unfolding all_zero
 all_zero-at-other s i h n = rw (drop-cons s i 0 h, ne_eqb (get_or s i 0) 0 n, all_zero)
+
+-- a step over a byte, and what is found at one
+pub ruleset zero_steps = (all_zero-at-zero, all_zero-at-other)

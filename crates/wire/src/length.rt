@@ -28,6 +28,7 @@ impl TextLength {
 
 impl WireSize {
     // The same conversion backwards.
+    #[tactic(auto, using(crate::proofs::LengthLaws::text_lengths))]
     pub fn text_length(self) -> Terminated
         ensures { result ≡ terminated self.0 }
     {

@@ -22,6 +22,7 @@ pub fn align4(header: u32, size: u32) -> usize
 }
 
 // Whether every byte is 0.
+#[tactic(auto, using(crate::proofs::PaddingLaws::zero_steps))]
 pub fn zeros(bytes: &[u8]) -> bool
     ensures { result ≡ all_zero bytes.now }
 {

@@ -29,7 +29,8 @@ pub fn write<'a>(payload: &'a [u8], edit: &'a [u8], rows: &[u32], output: &mut [
     match rows::measure(payload, edit, rows) {
         Measured::Refused(refusal) => Answer::Refused(refusal),
         Measured::Bytes(size) => {
-            if output.len() < size as usize {
+            let room = output.len();
+            if room < size as usize {
                 return Answer::Refused(Refusal::NoRoom(size));
             }
             source_info::write_srci(payload, edit, rows, output, size);

@@ -44,10 +44,10 @@ write-display-requires c κs = search rules
 cast-if1 : tie.Need-overflow_cast-size
 cast-if1 c = search rules
 
-same_length : tie.Need-shape_of-output-then-output-size
+same_length : tie.Need-shape_of-output-then-room-size
 same_length c = search rules
 
-returns : tie.Need-returns-then-output-size
+returns : tie.Need-returns-then-room-size
 unfolding list_answer list_output
 returns c =
     let w = c.before.before.before in
@@ -68,14 +68,14 @@ returns-2 c =
 same-length-2 : tie.Need-shape_of-output
 same-length-2 c = search rules
 
-returns-3 : tie.Need-returns-else-output-size
+returns-3 : tie.Need-returns-else-room-size
 unfolding list_answer list_output
 returns-3 c =
     let second = c.before.before in
     let w = second.before.before.before.before.before in
     let found = w.before.before in
     let a = found.before.before.before.before.args in
-    met-stored listing-by-walk a.payload.now a.output.now (whole found) w.write_display-size.ensures (omega (arith, second.before.before.if-output-size.false)) second.write_display.ensures.1
+    met-stored listing-by-walk a.payload.now a.output.now (whole found) w.write_display-size.ensures (omega (arith, second.before.before.if-room-size.false)) second.write_display.ensures.1
 
 pub list_spec : {M : Type 1} → statement M
 list_spec =

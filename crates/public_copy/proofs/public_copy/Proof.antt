@@ -45,10 +45,10 @@ copy-srci-requires c κs = (whole c.before).1
 cast-if1 : tie.Need-overflow_cast-size
 cast-if1 c = search rules
 
-same_length : tie.Need-shape_of-output-then-output-size
+same_length : tie.Need-shape_of-output-then-room-size
 same_length c = search rules
 
-returns : tie.Need-returns-then-output-size
+returns : tie.Need-returns-then-room-size
 unfolding copy_answer copy_output
 returns c =
     let w = c.before.before.before in
@@ -70,14 +70,14 @@ returns-2 c =
 same-length-2 : tie.Need-shape_of-output
 same-length-2 c = search rules
 
-returns-3 : tie.Need-returns-else-output-size
+returns-3 : tie.Need-returns-else-room-size
 unfolding copy_answer copy_output
 returns-3 c =
     let second = c.before.before in
     let w = second.before.before.before.before.before in
     let found = w.before.before in
     let a = found.before.before.before.before.args in
-    met-stored copy-by-walk a.payload.now a.output.now (whole found) w.copy_srci-size.ensures (omega (arith, second.before.before.if-output-size.false)) second.copy_srci.ensures.1
+    met-stored copy-by-walk a.payload.now a.output.now (whole found) w.copy_srci-size.ensures (omega (arith, second.before.before.if-room-size.false)) second.copy_srci.ensures.1
 
 pub public_copy_spec : {M : Type 1} → statement M
 public_copy_spec =

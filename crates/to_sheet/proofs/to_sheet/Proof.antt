@@ -62,10 +62,10 @@ write-sheet-requires c κs = ((whole c.before).1, small c.before.before.before.b
 cast-if1 : tie.Need-overflow_cast-size
 cast-if1 c = search rules
 
-same_length : tie.Need-shape_of-output-then-output-size
+same_length : tie.Need-shape_of-output-then-room-size
 same_length c = search rules
 
-returns : tie.Need-returns-then-output-size
+returns : tie.Need-returns-then-room-size
 unfolding to_sheet_answer to_sheet_output
 returns c =
     let w = c.before.before.before in
@@ -89,14 +89,14 @@ returns-2 c =
 same-length-2 : tie.Need-shape_of-output
 same-length-2 c = search rules
 
-returns-3 : tie.Need-returns-else-output-size
+returns-3 : tie.Need-returns-else-room-size
 unfolding to_sheet_answer to_sheet_output
 returns-3 c =
     let second = c.before.before in
     let w = second.before.before.before.before.before in
     let found = w.before.before in
     let a = found.before.before.before.before.args in
-    met-stored sheet-by-walk a.payload.now a.output.now (whole found) w.write_sheet-size.ensures (omega (arith, second.before.before.if-output-size.false)) second.write_sheet.ensures.1
+    met-stored sheet-by-walk a.payload.now a.output.now (whole found) w.write_sheet-size.ensures (omega (arith, second.before.before.if-room-size.false)) second.write_sheet.ensures.1
 
 pub to_sheet_spec : {M : Type 1} → statement M
 to_sheet_spec =

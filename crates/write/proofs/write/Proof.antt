@@ -40,7 +40,7 @@ enum-known-size c = search rules
 cast-if1 : tie.Need-overflow_cast-size
 cast-if1 c = search rules
 
-returns : tie.Need-returns-then-output-size
+returns : tie.Need-returns-then-room-size
 unfolding write_answer write_output
 returns c =
     let n = c.before in
@@ -67,7 +67,7 @@ returns-2 c =
 same_length : tie.Need-shape_of-output
 same_length c = search rules
 
-returns-3 : tie.Need-returns-else-output-size
+returns-3 : tie.Need-returns-else-room-size
 unfolding write_answer write_output
 returns-3 c =
     let f = c.before.before in
