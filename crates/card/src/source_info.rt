@@ -15,7 +15,7 @@ use display::Summary;
 use layout::{SourceCompression, SourceInfoSectionType};
 
 // What a section's line says, if the card has a line for it.
-#[derive(Drop)]
+#[derive(Clone, Copy)]
 enum MaybeSummary {
     Known(Summary),
     Unknown,

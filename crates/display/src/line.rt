@@ -7,7 +7,7 @@ ghost use Rattle.display.specs.Summary.{summary_line, records_line};
 use crate::number::{write_hex, write_number};
 
 // What a section's line says of it: how many records it has, how many bytes it stores, its kind.
-#[derive(Drop)]
+#[derive(Clone, Copy)]
 pub enum Summary {
     Uncompressed(u32),
     Zlib(u32, u32),

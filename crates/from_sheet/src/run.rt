@@ -12,7 +12,7 @@ use line_reader::{field, tag_of};
 use table::Tag;
 
 // Where a run of entries ends: the place of the line after it, the place of the output after it, and how many they are.
-#[derive(Drop)]
+#[derive(Clone, Copy)]
 pub struct RunEnd {
     pub at: usize,
     pub to: usize,

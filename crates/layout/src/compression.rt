@@ -2,7 +2,7 @@
 ghost use Rattle.std.specs.Prelude.{◌≡◌};
 ghost use Rattle.layout.specs.Kinds.{compression, checked_compression, compression_number};
 
-#[derive(Drop)]
+#[derive(Clone, Copy)]
 pub enum SourceCompression {
     // The entries stand in the section as they are: a plain section.
     None,
@@ -11,7 +11,7 @@ pub enum SourceCompression {
 }
 
 // What a number on the wire says.
-#[derive(Drop)]
+#[derive(Clone, Copy)]
 pub enum MaybeCompression {
     Known(SourceCompression),
     Unknown,

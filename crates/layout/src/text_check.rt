@@ -8,7 +8,7 @@ use utf8::Utf8;
 use wire::TextLength;
 
 // What a check answers that has nothing to give.
-#[derive(Drop)]
+#[derive(Clone, Copy)]
 pub enum Check {
     Passed,
     Refused(Refusal),

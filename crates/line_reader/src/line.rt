@@ -16,14 +16,14 @@ use layout::{Check, Refusal, check_whole};
 use table::Tag;
 
 // What a line holds: its tag, and how many bytes its bytes or texts have; 0 where there are none.
-#[derive(Drop)]
+#[derive(Clone, Copy)]
 pub struct LineSizes {
     pub tag: Tag,
     pub first: usize,
     pub second: usize,
 }
 
-#[derive(Drop)]
+#[derive(Clone, Copy)]
 pub enum LineCheck {
     Line(LineSizes),
     Refused(Refusal),

@@ -2,7 +2,7 @@
 ghost use Rattle.std.specs.Prelude.{◌≡◌, ◌<◌};
 ghost use Rattle.line_reader.specs.Numbers.{number_told, spelt_told};
 
-#[derive(Drop)]
+#[derive(Clone, Copy)]
 pub enum MaybeNumber {
     Number(u32),
     Malformed,

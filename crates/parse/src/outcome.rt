@@ -3,21 +3,21 @@ use layout::Refusal;
 use wire::TextLength;
 
 // A text of this length.
-#[derive(Drop)]
+#[derive(Clone, Copy)]
 pub enum MaybeText {
     Text(TextLength),
     Refused(Refusal),
 }
 
 // The place after an entry or a pair.
-#[derive(Drop)]
+#[derive(Clone, Copy)]
 pub enum MaybePlace {
     At(usize),
     Refused(Refusal),
 }
 
 // How many rows.
-#[derive(Drop)]
+#[derive(Clone, Copy)]
 pub enum Counted {
     Rows(u32),
     Refused(Refusal),

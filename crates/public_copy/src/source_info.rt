@@ -48,7 +48,7 @@ fn copy_section(
 }
 
 // Where the sections of a copy end, and how many they are.
-#[derive(Drop)]
+#[derive(Clone, Copy)]
 struct Copied {
     end: usize,
     sections: u16,

@@ -266,7 +266,7 @@ fn replay_write<'a, W: Write>(
 }
 
 // A job that takes an input, which is a payload or a sheet, and an output.
-#[derive(Drop)]
+#[derive(Clone, Copy)]
 enum Job {
     List,
     PublicCopy,

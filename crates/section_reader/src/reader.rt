@@ -4,7 +4,7 @@ ghost use Rattle.section_reader.specs.Section.{taken, moved_on};
 
 use crate::section::{MaybeSection, left_at, take_at};
 
-#[derive(Drop)]
+#[derive(Clone, Copy)]
 pub struct SectionReader<'a> {
     pub payload: &'a [u8],
     pub at: usize,

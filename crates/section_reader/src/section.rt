@@ -13,14 +13,14 @@ pub struct Section {
     pub size: usize,
 }
 
-#[derive(Drop)]
+#[derive(Clone, Copy)]
 pub enum MaybeSection {
     Found(Section),
     Refused(Refusal),
 }
 
 // What is taken at a place: the section that begins there, or its fault; and where the reader stands afterwards.
-#[derive(Drop)]
+#[derive(Clone, Copy)]
 pub struct Taken {
     pub section: MaybeSection,
     pub next: usize,

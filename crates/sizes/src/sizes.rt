@@ -29,7 +29,7 @@ pub struct Sizes {
 }
 
 // How many bytes would be written.
-#[derive(Drop)]
+#[derive(Clone, Copy)]
 pub enum Measured {
     Bytes(u32),
     Refused(Refusal),

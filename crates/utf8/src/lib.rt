@@ -13,7 +13,7 @@ ghost use Rattle.utf8.specs.Rfc3629.{octets_from};
 ghost use Rattle.utf8.specs.Classes.{ClassTable};
 
 // What the check answers.
-#[derive(Drop)]
+#[derive(Clone, Copy)]
 pub enum Utf8 {
     WellFormed,
     // The first ill-formed sequence begins at this byte, and all before it is well formed.

@@ -8,11 +8,11 @@ ghost use Rattle.wire.specs.Length.{wire_size, terminated};
 pub struct TextLength(pub u32);
 
 // Bytes that a text takes on the wire, with its terminator.
-#[derive(Drop)]
+#[derive(Clone, Copy)]
 pub struct WireSize(pub usize);
 
 // What a size on the wire says of its text: 0 leaves no room for the terminator.
-#[derive(Drop)]
+#[derive(Clone, Copy)]
 pub enum Terminated {
     Text(TextLength),
     Nothing,
