@@ -1,15 +1,18 @@
-// What the programs list_payload and show_card print: each a function of the bytes that the program read.
+// What the programs list_payload and show_card print: each a function of the bytes that the program read. And how a
+// program reads: into a buffer, as far as that goes.
 //
 // Proved: what is stored, and how many bytes, is what crate format defines for every input (specs/Print.antt,
 // specs/Card.antt). Nothing is assumed.
 #![tactic(auto)]
 
-ghost use Rattle.std.specs.Prelude.{◌++◌, ◌≡◌, length, drop};
+ghost use Rattle.std.specs.Prelude.{◌++◌, ◌≡◌, ◌≤◌, IfOk, length, drop};
 ghost use Rattle.std.proofs.lemmas.List.Edits.{sets};
 ghost use Rattle.format.specs.Card.{card_printed};
 ghost use Rattle.format.specs.Print.{longer_line, list_printed, told_length, told};
 
 use layout::Answer;
+use std::io;
+use std::io::Read;
 
 // The most bytes that a program reads, and prints of a job's outcome.
 pub const MOST: usize = 65536;
@@ -57,4 +60,19 @@ pub fn print_card(input: &[u8], output: &mut [u8; 65536]) -> usize
     }
     let answer = card::card(input, output);
     print_answer(answer, output)
+}
+
+// Reads until the input ends or the buffer is full, and answers how many bytes were read.
+pub fn read_full<R: Read>(input: &mut R, buffer: &mut [u8]) -> io::Result<usize>
+    ensures { IfOk result (λ n. n ≤ length buffer.new) }
+{
+    let mut count = 0;
+    while count < buffer.len() {
+        let read = input.read(&mut buffer[count..])?;
+        if read == 0 {
+            break;
+        }
+        count += read;
+    }
+    Ok(count)
 }

@@ -7,13 +7,13 @@
 #![tactic(auto)]
 
 use std::io;
-use std::io::{Read, Write};
+use std::io::Write;
 
 fn main(rt: HostRuntime) -> io::Result<()> {
     // a byte more than the program reads a card from, which tells that there are more
-    let mut input = Vec::new(rt.alloc());
-    rt.reader().take(65537).read_to_end(&mut input)?;
+    let mut input = [0u8; 65537];
+    let count = print::read_full(&mut rt.reader(), &mut input)?;
     let mut output = [0u8; 65536];
-    let size = print::print_card(&input, &mut output);
+    let size = print::print_card(&input[..count], &mut output);
     io::writer(&rt).write_all(&output[..size])
 }
