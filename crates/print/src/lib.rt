@@ -5,7 +5,8 @@
 // specs/Card.antt). Nothing is assumed.
 #![tactic(auto)]
 
-ghost use Rattle.std.specs.Prelude.{◌++◌, ◌≡◌, ◌≤◌, IfOk, length, drop};
+ghost use Rattle.std.specs.Prelude.{◌++◌, ◌≡◌, ◌≤◌, ◌<◌, IfOk, length, take, drop};
+ghost use Rattle.std.specs.Io.KnownBytes.{Consumes, IsAtEnd};
 ghost use Rattle.std.proofs.lemmas.List.Edits.{sets};
 ghost use Rattle.format.specs.Card.{card_printed};
 ghost use Rattle.format.specs.Print.{longer_line, list_printed, told_length, told};
@@ -64,13 +65,15 @@ pub fn print_card(input: &[u8], output: &mut [u8; 65536]) -> usize
 
 // Reads until the input ends or the buffer is full, and answers how many bytes were read.
 pub fn read_full<R: Read>(input: &mut R, buffer: &mut [u8]) -> io::Result<usize>
-    ensures { IfOk result (λ n. n ≤ length buffer.new) }
+    ensures bound { IfOk result (λ n. n ≤ length buffer.new) }
+    ensures bytes { IfOk result (λ n. Consumes (R.remaining input.old) (R.remaining input.new) (take n buffer.new)) }
+    ensures full { IfOk result (λ n. n < length buffer.new → IsAtEnd (R.remaining input.new)) }
 {
     let mut count = 0;
     while count < buffer.len() {
         let read = input.read(&mut buffer[count..])?;
         if read == 0 {
-            break;
+            return Ok(count);
         }
         count += read;
     }
