@@ -114,12 +114,15 @@ same("refusals, and which have a second number", found, expected)
 
 tags = [(spread.variant(row), tag) for tag, row, _ in spread.ROWS]
 source = text("crates/table/src/tag.rt")
-same("tags", tags, [tag for tag in re.findall(r"Tag::(\w+) => (\d+),", source) if tag[0] != "None"])
+# a tag's number is its place among the variants
+variants = re.findall(r"^    (\w+),", re.search(r"pub enum Tag {(.*?)\n}", source, re.S)[1], re.M)
+same("tags", tags, [(name, str(number)) for number, name in enumerate(variants) if name != "None"])
 same("tags read", tags, [(name, tag) for tag, name in re.findall(r"(\d+) => Tag::(\w+),", source)])
 
-made = re.findall(r"Row {\s+tag: (\d+),\s+side: 0,\s+((?:[a-e]: [^,]+,\s+){5})}", text("crates/table/src/row.rt"))
-# the first is what stands for no row
-used = {tag: [letter for letter, of in re.findall(r"([a-e]): ([^,]+),", told) if of != "0"] for tag, told in made[1:]}
+made = re.findall(
+    r"Row {\s+tag: Tag::(\w+)\.to_u32\(\),\s+(?:side: 0,\s+)?((?:[a-e]: [^,]+,\s+)*)(?:\.\.Row::ZERO\s+)?}", text("crates/table/src/row.rt")
+)
+used = {dict(tags)[name]: re.findall(r"([a-e]): ", told) for name, told in made}
 found = {tag: [letter for letter, number in zip("abcde", numbers) if number] for tag, _, numbers in spread.ROWS}
 same("which numbers a row has", found, used)
 

@@ -1,9 +1,8 @@
 -- What is said of a section, as the texts of its lines: one, or none.
-use Rattle.std.specs.Prelude.{ℕ, List, [], ◌∷◌}
+use Rattle.display.specs.declared.line.Summary.{Summary}
+use Rattle.std.specs.Prelude.{ℕ, List, [], ◌∷◌, Option, None, Some}
 use Rattle.display.specs.Summary.{summary_line}
-use Rattle.card.specs.declared.source_info.MaybeSummary.{MaybeSummary}
-use Rattle.card.specs.declared.source_info.MaybeSummary.TheVariants.{Known, Unknown}
 
-abbrev pub texts : MaybeSummary → List (List ℕ)
-texts (Known summary) = summary_line summary ∷ []
-texts Unknown = []
+abbrev pub texts : Option Summary → List (List ℕ)
+texts (Some summary) = summary_line summary ∷ []
+texts None = []

@@ -15,22 +15,17 @@ ghost use Rattle.std.specs.Prelude.{◌≡◌, length};
 ghost use Rattle.format.specs.Card.{card_answer, card_output};
 
 use layout::{Answer, Refusal};
-use parse::Counted;
 
 // Writes the card of a payload to a lent output, whole, or refuses it and leaves the output as it was.
 pub fn card(payload: &[u8], output: &mut [u8]) -> Answer
     ensures value { result ≡ card_answer payload.now (length output.old) }
     ensures output_after { output.new ≡ card_output payload.now output.old }
 {
-    match parse::parse_srci(payload) {
-        Counted::Refused(refusal) => Answer::Refused(refusal),
-        Counted::Rows(_) => {
-            let size = source_info::write_card(payload, &mut output[..0]);
-            if output.len() < size as usize {
-                return Answer::Refused(Refusal::NoRoom(size));
-            }
-            source_info::write_card(payload, output);
-            Answer::Accepted(size)
-        }
+    parse::parse_srci(payload)?;
+    let size = source_info::write_card(payload, &mut output[..0]);
+    if output.len() < size as usize {
+        return Err(Refusal::NoRoom(size));
     }
+    source_info::write_card(payload, output);
+    Ok(size)
 }

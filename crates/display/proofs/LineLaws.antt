@@ -101,6 +101,12 @@ pub unknown-length : (place kind bytes : ℕ) → length (line place (unknown_li
 unfolding ascii hex
 unknown-length place kind bytes = simp length-append (omega arith)
 
+pub ruleset joined = (sets-joined)
+
+pub ruleset records_line_parts = (records-stored, records-length)
+
+pub ruleset whole_lines = (plain-line, packed-line, names-line, arguments-line, sets-joined)
+
 -- ---- a page
 
 -- the heading of so many texts, and then their lines

@@ -1,8 +1,8 @@
 // The lines of a listing and of a card, stored in a lent output: the heading, the line of a section, and the line of
 // a refused call; and a number in decimal.
 //
-// Proved: every function is total, has no `requires`, and stores and answers just what crate format defines
-// (specs/Display.antt, specs/Print.antt). What would be stored past the end is dropped. Nothing is assumed.
+// Proved: every function that another crate can call is total, has no `requires`, and stores and answers just what crate
+// format defines (specs/Display.antt, specs/Print.antt). What would be stored past the end is dropped. Nothing is assumed.
 #![tactic(auto)]
 
 mod line;
@@ -17,9 +17,10 @@ ghost use Rattle.display.specs.Summary.{summary_line};
 
 use crate::number::write_number;
 pub use line::Summary;
-pub use number::write_decimal;
+pub use number::{hex_digit, write_decimal};
 
 // The first line, of so many sections. Answers its length.
+#[tactic(auto, using(crate::proofs::LineLaws::joined), unfolding(format::specs::Display::ascii))]
 pub fn write_heading(output: &mut [u8], count: u32) -> usize
     ensures value { result ≡ length (heading count) }
     ensures upper_bound { result ≤ 45 }
@@ -39,6 +40,7 @@ pub fn write_line(output: &mut [u8], at: u32, place: u32, summary: Summary) -> u
 }
 
 // The line of a refused call, with its number. Answers its length.
+#[tactic(auto, using(crate::proofs::LineLaws::joined), unfolding(format::specs::Display::ascii))]
 pub fn write_refused(output: &mut [u8], number: u32) -> usize
     ensures value { result ≡ length (number_line number) }
     ensures upper_bound { result ≤ 22 }

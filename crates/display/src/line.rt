@@ -17,6 +17,7 @@ pub enum Summary {
 }
 
 // A line with a name, the number of a section's records, and a text.
+#[tactic(auto, using(crate::proofs::LineLaws::records_line_parts), unfolding(format::specs::Display::ascii))]
 fn write_records(
     output: &mut [u8],
     at: usize,
@@ -52,6 +53,7 @@ fn write_unknown(output: &mut [u8], at: usize, place: u32, kind: u16, bytes: u32
 }
 
 // The line of a section that has a place in the listing.
+#[tactic(auto, using(crate::proofs::LineLaws::whole_lines), unfolding(format::specs::Display::ascii))]
 pub fn write_line(output: &mut [u8], at: usize, place: u32, summary: Summary) -> usize
     requires { at ≤ 2 ^ 40 }
     ensures value { result ≡ at + length (line place (summary_line summary)) }

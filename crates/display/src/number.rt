@@ -1,10 +1,11 @@
 // Numbers as text, stored at a place of the output.
-ghost use Rattle.std.specs.Prelude.{◌≡◌, ◌++◌, ◌+◌, ◌^◌, ◌≤◌, ◌<◌, length};
+ghost use Rattle.std.specs.Prelude.{◌≡◌, ◌++◌, ◌+◌, ◌^◌, ◌≤◌, ◌%◌, length};
 ghost use Rattle.std.proofs.lemmas.List.Edits.{sets};
 ghost use Rattle.format.specs.Display.{decimal, hex};
-ghost use Rattle.format.specs.Display.{digit as Display·digit};
+ghost use Rattle.display.specs.Digits.{digit_in};
 
 // A number in decimal. Answers its length.
+#[tactic(auto, using(crate::proofs::Decimals::decimals))]
 pub fn write_decimal(output: &mut [u8], at: usize, n: u32) -> usize
     ensures value { result ≡ length (decimal n) }
     ensures upper_bound { result ≤ 10 }
@@ -17,6 +18,7 @@ pub fn write_decimal(output: &mut [u8], at: usize, n: u32) -> usize
 }
 
 // A number in decimal, and a text. Answers the place after them.
+#[tactic(auto, using(crate::proofs::LineLaws::joined))]
 pub fn write_number(output: &mut [u8], at: usize, n: u32, text: &[u8]) -> usize
     requires at_bound { at ≤ 2 ^ 50 }
     requires text_len_bound { length text.now ≤ 32 }
@@ -29,23 +31,31 @@ pub fn write_number(output: &mut [u8], at: usize, n: u32, text: &[u8]) -> usize
     next + text.len()
 }
 
-// The digit of a number below 16, with the letters in upper case.
-fn digit(n: u16) -> u8
-    requires { n < 16 }
-    ensures { result ≡ Display·digit n }
+// The digit of a number below 16: from 10 on a letter, in upper or in lower case. Of a larger number, that of its last
+// digit.
+pub fn hex_digit<const UPPER: bool>(n: u8) -> u8
+    ensures { result ≡ digit_in UPPER (n % 16) }
 {
-    if n < 10 { 48 + n as u8 } else { 55 + n as u8 }
+    let digit = n % 16;
+    let ten = if UPPER { b'A' } else { b'a' };
+    if digit < 10 {
+        b'0' + digit
+    } else {
+        ten + (digit - 10)
+    }
 }
 
 // A number in four hexadecimal digits.
+#[tactic(auto, unfolding(format::specs::Display::hex))]
 pub fn write_hex(output: &mut [u8], at: usize, n: u16)
     ensures { output.new ≡ sets output.old at (hex 4 n) }
 {
+    let last_digit = |n: u16| hex_digit::<true>((n % 16) as u8);
     let digits = [
-        digit(n / 4096),
-        digit(n / 256 % 16),
-        digit(n / 16 % 16),
-        digit(n % 16),
+        last_digit(n / 4096),
+        last_digit(n / 256),
+        last_digit(n / 16),
+        last_digit(n),
     ];
     wire::write_bytes(output, at, &digits);
 }

@@ -1,68 +1,51 @@
 -- What the field writers use: two bytes from one number, digits below 128, and a run of bytes that stand for themselves.
 -- Assumes nothing.
-use Prim.Native.Nat.{ℕ, ◌+◌, ◌*◌, ◌/◌, ◌%◌, ◌≤◌, ◌<◌}
+use Prim.Native.Nat.{ℕ, ◌+◌, ◌-◌, ◌≤◌, ◌<◌}
 use mathlib.Core.Bool.{Bool, true, false, cond, ◌||◌}
 use mathlib.Core.List.{List, [], ◌∷◌, ◌++◌, flat_map}
-use mathlib.Core.Path.{◌≡◌, refl, ap, ap₂, ◌∙◌}
+use mathlib.Core.Path.{◌≡◌, refl, ap₂}
 use native.Mathlib.Numerals.{add-one}
 use native.Mathlib.Omega.{arith}
 use borrow.Author.Tests.{eqb-true}
-use lib.Dec.{eqb, ltb}
+use lib.Dec.{eqb}
 use lib.ListN.{length, get_or, take, drop, length-drop, drop_of_length-le}
-use lib.Seq.{drop-cons, drop-drop, length-take-le}
+use lib.Seq.{drop-cons, drop-drop, take_all}
 use Rattle.find.specs.Find.{until, is_any}
 use Rattle.find.proofs.FindLaws.{until-found, until-more, until-least, until-step}
-use Rattle.wire.specs.Number.{bytes_of}
-use Rattle.sheet.specs.Fields.{tab, newline, backslash, hex_digit, hex_pair, hex_pairs, escaped, escape}
+use Rattle.std.specs.Prelude.{Some, None}
+use Rattle.sheet.specs.Fields.{tab, newline, backslash, hex_pair, hex_pairs, escaped, escape}
 use Rattle.field_writer.specs.Letters.{letter_of}
-
-pub digit-small : (n : ℕ) → n < 16 → hex_digit n ≤ 103
-digit-small n h = go (ltb n 10)
-  where
-    go : (low : Bool) → cond low (48 + n) (87 + n) ≤ 103
-    go true = omega arith
-    go false = omega arith
-
--- two bytes as one number
-pub two_bytes : (a b : ℕ) → a < 256 → b < 256 → bytes_of 2 (a + 256 * b) ≡ a ∷ b ∷ []
-unfolding bytes_of
-two_bytes a b h k =
-    let low : (a + 256 * b) % 256 ≡ a = omega arith in
-    let rest : (a + 256 * b) / 256 ≡ b = omega arith in
-    let high : b % 256 ≡ b = omega arith in
-    ap₂ (λ (x y : ℕ). x ∷ y ∷ []) low (ap (λ (n : ℕ). n % 256) rest ∙ high)
 
 -- ---- letters
 
--- a byte with a letter is written with it, and any other stands for itself
-pub record Lettered (b : ℕ) : Type 0 where
-  pub some : (letter_of b ≡ 0 → ⊥) → escaped b ≡ backslash ∷ letter_of b ∷ []
-  pub none : letter_of b ≡ 0 → is_any backslash tab newline b ≡ false
-  pub small : letter_of b < 256
-
-pub lettered : (b : ℕ) → Lettered b
-lettered b = go (eqb b tab) (eqb b newline) (eqb b backslash) refl refl refl
+-- a byte with a letter is written with it
+pub some-letter : (b second : ℕ) → letter_of b ≡ Some second → escaped b ≡ backslash ∷ second ∷ []
+some-letter b second h = go (eqb b tab) (eqb b newline) (eqb b backslash) refl refl refl h
   where
-    go : (x y z : Bool) → eqb b tab ≡ x → eqb b newline ≡ y → eqb b backslash ≡ z → Lettered b
-    go true y z e f g =
-        let is = eqb-true b tab e in
-        record { some = λ h. rw is; none = λ h. absurd (no (rw is at h)); small = rw is (omega arith) }
-      where
-        no : ◌≡◌ {A = ℕ} 116 0 → ⊥
-        no e = omega arith
-    go false true z e f g =
-        let is = eqb-true b newline f in
-        record { some = λ h. rw is; none = λ h. absurd (no (rw is at h)); small = rw is (omega arith) }
-      where
-        no : ◌≡◌ {A = ℕ} 110 0 → ⊥
-        no e = omega arith
-    go false false true e f g =
-        let is = eqb-true b backslash g in
-        record { some = λ h. rw is; none = λ h. absurd (no (rw is at h)); small = rw is (omega arith) }
-      where
-        no : ◌≡◌ {A = ℕ} 92 0 → ⊥
-        no e = omega arith
-    go false false false e f g = record { some = λ h. absurd (h (rw (e, f, g))); none = λ h. rw (g, e, f); small = rw (e, f, g) (omega arith) }
+    written : (n c : ℕ) → b ≡ n → escaped n ≡ backslash ∷ c ∷ [] → Some c ≡ Some second → escaped b ≡ backslash ∷ second ∷ []
+    written n c is e f = let same : c ≡ second = cc in rw (is, ← same) e
+
+    go :
+        (x y z : Bool) → eqb b tab ≡ x → eqb b newline ≡ y → eqb b backslash ≡ z →
+        cond x (Some 116) (cond y (Some 110) (cond z (Some backslash) None)) ≡ Some second →
+        escaped b ≡ backslash ∷ second ∷ []
+    go true y z e f g h = written tab 116 (eqb-true b tab e) refl h
+    go false true z e f g h = written newline 110 (eqb-true b newline f) refl h
+    go false false true e f g h = written backslash backslash (eqb-true b backslash g) refl h
+    go false false false e f g h = cc
+
+-- any other stands for itself
+pub no-letter : (b : ℕ) → letter_of b ≡ None → is_any backslash tab newline b ≡ false
+no-letter b h = go (eqb b tab) (eqb b newline) (eqb b backslash) h
+  where
+    go :
+        (x y z : Bool) →
+        cond x (Some 116) (cond y (Some 110) (cond z (Some backslash) None)) ≡ None →
+        (z || x || y) ≡ false
+    go true y z h = cc
+    go false true z h = cc
+    go false false true h = cc
+    go false false false h = refl
 
 -- ---- runs
 
@@ -113,22 +96,23 @@ pub escape_end : (s : List ℕ) (i : ℕ) → length s ≤ i → escape (drop i 
 unfolding escape flat_map
 escape_end s i h = rw (drop_of_length-le s h)
 
--- what is known of a run from a place on whose byte stands for itself
-pub record Run (s : List ℕ) (i n : ℕ) : Type 0 where
-  pub some : 1 ≤ n
-  pub within : i + n ≤ length s
-  pub long : length (take n (drop i s)) ≡ n
-  pub is : escape (drop i s) ≡ take n (drop i s) ++ escape (drop (i + n) s)
+-- the run that is found from a place on whose byte stands for itself
+abbrev pub run_at : List ℕ → ℕ → ℕ
+run_at s i = until (is_any backslash tab newline) (take (length s - i) (drop i s))
 
-pub run : (s : List ℕ) (i n : ℕ) → i < length s → letter_of (get_or s i 0) ≡ 0 → n ≡ until (is_any backslash tab newline) (drop i s) → Run s i n
-run s i n h none e =
+whole-rest : (s : List ℕ) (i : ℕ) → take (length s - i) (drop i s) ≡ drop i s
+whole-rest s i = take_all (length s - i) (drop i s) (omega (arith, length-drop i s))
+
+-- it has a byte, and lies within the text
+pub run-within : (s : List ℕ) (i : ℕ) → i < length s → letter_of (get_or s i 0) ≡ None → (1 ≤ run_at s i) × (i + run_at s i ≤ length s)
+run-within s i h none =
     let p : ℕ → Bool = is_any backslash tab newline in
-    let most : n ≤ length (drop i s) = rw e (until-least p (drop i s)) in
-    let rest = length-drop i s in
-    let least = until-step p s i h ((lettered (get_or s i 0)).none none) in
-    record {
-      some = omega arith;
-      within = omega arith;
-      long = length-take-le n (drop i s) most;
-      is = rw (← drop-drop n i s, e) (escape-run (drop i s));
-    }
+    let most = until-least p (drop i s) in
+    let least = until-step p s i h (no-letter (get_or s i 0) none) in
+    rw whole-rest (omega arith, omega (arith, length-drop i s))
+
+-- and its bytes stand for themselves
+pub run-stands : (s : List ℕ) (i : ℕ) → escape (drop i s) ≡ take (run_at s i) (drop i s) ++ escape (drop (i + run_at s i) s)
+run-stands s i = rw (whole-rest s i, ← drop-drop) (escape-run (drop i s))
+
+pub ruleset runs = (run-within)

@@ -4,25 +4,27 @@ ghost use Rattle.std.proofs.lemmas.List.Edits.{sets};
 ghost use Rattle.sheet.specs.Fields.{escape};
 ghost use Rattle.field_writer.specs.Letters.{letter_of};
 
-const TAB: u8 = 9;
+const TAB: u8 = b'\t';
 
-const NEWLINE: u8 = 10;
+const NEWLINE: u8 = b'\n';
 
-const BACKSLASH: u8 = 92;
+const BACKSLASH: u8 = b'\\';
 
-// What follows the backslash that a byte is written with; 0 where it stands for itself.
-fn letter(byte: u8) -> u8
+// What follows the backslash that a byte is written with; None where it stands for itself.
+fn letter(byte: u8) -> Option<u8>
     ensures { result ≡ letter_of byte }
 {
     match byte {
-        9 => 116,
-        10 => 110,
-        92 => 92,
-        _ => 0,
+        TAB => Some(b't'),
+        NEWLINE => Some(b'n'),
+        BACKSLASH => Some(BACKSLASH),
+        _ => None,
     }
 }
 
-// A whole text. Bytes that stand for themselves are copied in runs. Answers the place after it.
+// A whole text. Bytes that stand for themselves are copied in runs, so that the place moves on by
+// their lengths. Answers the place after it.
+#[tactic(auto, using(crate::proofs::Fields::runs))]
 pub fn write_escaped(output: &mut [u8], at: usize, text: &[u8]) -> usize
     requires { at + 2 * length text.now ≤ 2 ^ 60 }
     ensures value { result ≡ at + length (escape text.now) }
@@ -31,9 +33,8 @@ pub fn write_escaped(output: &mut [u8], at: usize, text: &[u8]) -> usize
     let mut to = at;
     let mut i = 0;
     while i < text.len() {
-        let second = letter(text[i]);
-        if second != 0 {
-            wire::write_u16(output, to, BACKSLASH as u16 + 256 * (second as u16));
+        if let Some(second) = letter(text[i]) {
+            wire::write_u16(output, to, u16::from_le_bytes([BACKSLASH, second]));
             to += 2;
             i += 1;
         } else {

@@ -1,16 +1,19 @@
 -- The laws of the first byte that passes a test: where it stands, what stands before it, and a step over bytes that do not pass.
 -- Assumes nothing.
-use Prim.Native.Nat.{ℕ, zero, suc, ◌+◌, ◌≤◌, ◌<◌}
-use mathlib.Core.Bool.{Bool, true, false, ◌||◌}
+use Prim.Native.Nat.{ℕ, zero, suc, ◌+◌, ◌*◌, ◌≤◌, ◌<◌}
+use mathlib.Core.Bool.{Bool, true, false, ◌||◌, cond, not}
 use mathlib.Core.List.{List, [], ◌∷◌}
 use mathlib.Core.Path.{◌≡◌, refl, ap, ◌∙◌}
 use native.Mathlib.Nat.{add-zero}
 use native.Mathlib.Numerals.{add-one}
 use native.Mathlib.Omega.{arith}
-use lib.Dec.{eqb}
+use lib.Dec.{eqb, ltb}
 use lib.ListN.{length, get_or, drop, drop_of_length-le}
 use lib.Seq.{drop-cons}
-use borrow.Author.Tests.{eq-eqb, ne_eqb}
+use Rattle.std.specs.List.{position_or_len}
+use Rattle.std.specs.Option.{unwrap_or}
+use Rattle.std.proofs.Common.{Option, Some, None}
+use borrow.Author.Tests.{eq-eqb, ne_eqb, ltb-false}
 use Rattle.find.specs.Find.{until, is_any}
 
 -- a byte that is named three times is one byte
@@ -49,6 +52,29 @@ module _ (passes : ℕ → Bool) where
       go true e h = omega (arith, until-found b s e)
       go false e h = omega (arith, until-more b s e)
 
+  position-is : (s : List ℕ) → position_or_len passes s ≡ until passes s
+  unfolding until
+  position-is [] = refl
+  position-is (b ∷ s) = go (passes b) (position-is s)
+    where
+      go : (here : Bool) → position_or_len passes s ≡ until passes s → cond (not here) (1 + position_or_len passes s) 0 ≡ found here s
+      go true e = refl
+      go false e = omega arith
+
+  -- what `position` finds, or the end
+  pub position-until :
+      (s : List ℕ) (at : Option ℕ) (n : ℕ) →
+      at ≡ cond (ltb (position_or_len passes s) (length s)) (Some (position_or_len passes s)) None →
+      n ≡ unwrap_or at (length s) →
+      n ≡ until passes s
+  position-until s at n e h = go (ltb (position_or_len passes s) (length s)) refl
+    where
+      go : (t : Bool) → ltb (position_or_len passes s) (length s) ≡ t → n ≡ until passes s
+      go true t = h ∙ ap (λ (o : Option ℕ). unwrap_or o (length s)) (rw t at e) ∙ position-is s
+      go false t =
+          h ∙ ap (λ (o : Option ℕ). unwrap_or o (length s)) (rw t at e) ∙
+          omega (arith, ltb-false _ _ t, position-is s, until-least s)
+
   pub until-at : (s : List ℕ) → until passes s < length s → passes (get_or s (until passes s) 0) ≡ true
   until-at [] h = absurd (omega arith)
   until-at (b ∷ s) h = go (passes b) refl (until-at s)
@@ -85,3 +111,15 @@ module _ (passes : ℕ → Bool) where
       ap (λ (m : ℕ). m + until passes (drop m s)) (let e : i + suc n ≡ i + n + 1 = omega arith in e) ∙
       omega arith ∙
       until-run s i n (omega arith) (λ k l. a k (omega arith))
+
+  -- a step over blocks in which none passes
+  pub until-blocks :
+      (s : List ℕ) (n : ℕ) →
+      n * 16 ≤ length s →
+      ((k : ℕ) → k < n → (i : ℕ) → i < 16 → passes (get_or s (k * 16 + i) 0) ≡ false) →
+      n * 16 + until passes (drop (n * 16) s) ≡ until passes s
+  until-blocks s zero h a = omega arith
+  until-blocks s (suc n) h a =
+      ap (λ (m : ℕ). m + until passes (drop m s)) (let e : suc n * 16 ≡ n * 16 + 16 = omega arith in e) ∙
+      until-run s (n * 16) 16 (omega arith) (a n (omega arith)) ∙
+      until-blocks s n (omega arith) (λ k l. a k (omega arith))

@@ -3,19 +3,20 @@
 // Bytes that are none of them are passed over in blocks, and what is left of them one by one. The loop over a
 // block looks for one byte and does not branch on what it meets, so that it is compiled to a test of all of the block at
 // once, which costs no more than that of one byte. A loop that looked for three would not be.
-//
-// The next place of one byte is searched for by itself, with one compare for each byte: most such searches are short.
-ghost use Rattle.std.specs.Prelude.{◌≡◌, false, ℕ, ◌+◌, max, ◌≤◌, ◌<◌, length, get_or, drop};
+ghost use Rattle.std.specs.Prelude.{◌≡◌, ℕ, ◌==◌, false, ◌+◌, ◌*◌, ◌/◌, max, ◌<◌, ◌≤◌, length, drop, slice_index};
+ghost use Rattle.std.specs.List.{All, list_any};
 ghost use Rattle.find.specs.Find.{until, is_any};
 
 const BLOCK: usize = 16;
 
-// How many bytes stand before the first that is one of the three; all of them where there is none.
+// How many bytes stand before the first that is one of the three; all of them where there is none. Inlined, so that a search
+// for one byte compares each with that byte once: most such searches are short.
+#[inline(always)]
 pub fn find_any(bytes: &[u8], one: u8, two: u8, three: u8) -> usize
     ensures { result ≡ until (is_any one two three) bytes.now }
 {
-    let start = blocks_end(bytes, one, two, three);
-    passed(bytes, one, two, three, start)
+    let start = blocks_without(bytes, one, two, three) * BLOCK;
+    start + first(&bytes[start..], one, two, three)
 }
 
 // The next place of a byte, from at on; where there is none the end, or at where that lies past the end.
@@ -26,93 +27,46 @@ pub fn find_from(bytes: &[u8], byte: u8, at: usize) -> usize
     if bytes.len() <= at {
         return at;
     }
-    let mut i = blocks_without(bytes, byte, at);
-    while i < bytes.len() {
-        if bytes[i] == byte {
-            return i;
-        }
-        i += 1;
-    }
-    i
+    at + find_any(&bytes[at..], byte, byte, byte)
 }
 
-// The end of the whole blocks without a byte that stand one after another from at on.
-fn blocks_without(bytes: &[u8], byte: u8, at: usize) -> usize
-    requires { at ≤ length bytes.now }
-    ensures upper_bound { result ≤ length bytes.now }
-    ensures bytes_value { result + until (is_any byte byte byte) (drop result bytes.now) ≡ at + until (is_any byte byte byte) (drop at bytes.now) }
+// How many whole blocks without one the bytes begin with.
+fn blocks_without(bytes: &[u8], one: u8, two: u8, three: u8) -> usize
+    ensures bound { result ≤ length bytes.now / 16 }
+    ensures none { (k : ℕ) → k < result → (i : ℕ) → i < 16 → is_any one two three (slice_index bytes.now (k * 16 + i)) ≡ false }
 {
-    let mut i = at;
-    while bytes.len() - i >= BLOCK {
-        if has_byte(bytes, byte, i) {
-            return i;
-        }
-        i += BLOCK;
-    }
-    i
+    bytes
+        .chunks_exact(BLOCK)
+        .take_while(|block| !has_any(block, one, two, three))
+        .count()
 }
 
-// The place of the first one from at on, or the end where there is none.
-fn passed(bytes: &[u8], one: u8, two: u8, three: u8, at: usize) -> usize
-    requires { at ≤ length bytes.now }
-    ensures { result ≡ at + until (is_any one two three) (drop at bytes.now) }
+// Whether a block has one. A byte that is named twice is looked for once.
+fn has_any(block: &[u8], one: u8, two: u8, three: u8) -> bool
+    ensures { result ≡ false → All (λ b. is_any one two three b ≡ false) block.now }
 {
-    let mut i = at;
-    while i < bytes.len() {
-        if is_any(bytes[i], one, two, three) {
-            return i;
-        }
-        i += 1;
-    }
-    i
+    has(block, one) || (two != one && has(block, two)) || (three != two && has(block, three))
 }
 
-// The end of the whole blocks without one that the bytes begin with.
-fn blocks_end(bytes: &[u8], one: u8, two: u8, three: u8) -> usize
-    ensures upper_bound { result ≤ length bytes.now }
-    ensures bytes_value { result + until (is_any one two three) (drop result bytes.now) ≡ until (is_any one two three) bytes.now }
-{
-    let mut i = 0;
-    while bytes.len() - i >= BLOCK {
-        if has_any(bytes, one, two, three, i) {
-            return i;
-        }
-        i += BLOCK;
-    }
-    i
-}
-
-// Whether the block at place at has one. A byte that is named twice is looked for once.
-fn has_any(bytes: &[u8], one: u8, two: u8, three: u8, at: usize) -> bool
-    requires { at + 16 ≤ length bytes.now }
-    ensures { result ≡ false → (k : ℕ) → k < 16 → is_any one two three (get_or bytes.now (at + k) 0) ≡ false }
-{
-    if has_byte(bytes, one, at) {
-        return true;
-    }
-    if two != one {
-        if has_byte(bytes, two, at) {
-            return true;
-        }
-    }
-    if three != two {
-        return has_byte(bytes, three, at);
-    }
-    false
-}
-
-// Whether the block at place at has a byte.
-fn has_byte(bytes: &[u8], byte: u8, at: usize) -> bool
-    requires { at + 16 ≤ length bytes.now }
-    ensures { result ≡ false → (k : ℕ) → k < 16 → get_or bytes.now (at + k) 0 ≡ byte → ⊥ }
+// Whether a block has a byte. Tried with `contains`, which takes three times as long at this size.
+fn has(block: &[u8], byte: u8) -> bool
+    ensures { result ≡ list_any (λ b. b == byte) block.now }
 {
     let mut found = false;
-    for k in 0..BLOCK {
-        if bytes[at + k] == byte {
-            found = true;
-        }
+    for b in block {
+        found |= *b == byte;
     }
     found
+}
+
+// How many bytes stand before the first that is one, byte by byte.
+fn first(bytes: &[u8], one: u8, two: u8, three: u8) -> usize
+    ensures { result ≡ until (is_any one two three) bytes.now }
+{
+    bytes
+        .iter()
+        .position(|byte| is_any(*byte, one, two, three))
+        .unwrap_or(bytes.len())
 }
 
 // Whether a byte is one of three.

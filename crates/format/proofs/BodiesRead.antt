@@ -1,5 +1,6 @@
 -- Reading finds every well-formed section where its bytes stand, of each kind.
 -- Assumes nothing.
+use Rattle.std.specs.Prelude.{Ok}
 use Prim.Native.Nat.{ℕ, ◌+◌, ◌-◌, ◌≤◌}
 use mathlib.Core.Bool.{true}
 use mathlib.Core.List.{List, flat_map}
@@ -8,7 +9,6 @@ use native.Mathlib.Omega.{arith}
 use lib.ListN.{length}
 use Rattle.wire.specs.Padding.{aligned}
 use Rattle.wire.proofs.PaddingLaws.{le-aligned, aligned-multiple, aligned-of-multiple}
-use Rattle.layout.specs.Checked.{good}
 use Rattle.format.specs.Encoding.{limit, content_entry, name_entry, pair_entry, stored_bytes, body_header, kind_of, encode_section, countable}
 use Rattle.format.specs.Parse.{parse_stored, parse_section, kind_at}
 use Rattle.format.specs.Sections.{Section, plain, packed, names, arguments, unknown}
@@ -30,7 +30,7 @@ module _ (p : List ℕ) (small : length p ≤ limit) (at : ℕ) where
       countable s ≡ true →
       at + aligned (filled s) ≤ length p →
       SectionAt p at s →
-      parse_section (kind_of s) p at (aligned (filled s)) ≡ good (rows_of_section at s)
+      parse_section (kind_of s) p at (aligned (filled s)) ≡ Ok (rows_of_section at s)
   unfolding parse_section parse_stored stored_bytes body_header kind_of countable rows_of_section
   read-kind (names ns) ok fit within g =
       let stored : ℕ = length (flat_map name_entry ns) in
@@ -70,7 +70,7 @@ module _ (p : List ℕ) (small : length p ≤ limit) (at : ℕ) where
       countable s ≡ true →
       at + aligned (filled s) ≤ length p →
       Stands p at (encode_section s) →
-      Frame p at (aligned (filled s)) × (parse_section (kind_at p at) p at (aligned (filled s)) ≡ good (rows_of_section at s))
+      Frame p at (aligned (filled s)) × (parse_section (kind_at p at) p at (aligned (filled s)) ≡ Ok (rows_of_section at s))
   read-section s ok fit within stand =
       let g = stands-section p at s within small (known-kind s ok) stand in (
         record {

@@ -1,5 +1,6 @@
 -- A section that reading finds good is the bytes of a well-formed section, of each kind.
 -- Assumes nothing.
+use Rattle.std.specs.Prelude.{Ok}
 use Prim.Native.Nat.{ℕ, zero, suc, ◌+◌, ◌-◌, ◌≤◌}
 use mathlib.Core.Bool.{true}
 use mathlib.Core.List.{List, [], ◌∷◌, flat_map}
@@ -10,7 +11,6 @@ use lib.ListN.{length}
 use Rattle.wire.specs.Number.{u16_at, u32_at}
 use Rattle.wire.specs.Padding.{padding}
 use Rattle.wire.proofs.PaddingLaws.{padding-by-arithmetic, aligned-of-multiple, all_zero-replicate}
-use Rattle.layout.specs.Checked.{good}
 use Rattle.layout.specs.Kinds.{kind_number, checked_compression}
 use Rattle.layout.specs.Spans.{part}
 use Rattle.layout.specs.declared.compression.SourceCompression.TheVariants.{None}
@@ -65,7 +65,7 @@ module _ (p : List ℕ) (bytes : Bytes p) (at size : ℕ) (frame : Frame p at si
 
   -- ---- names
 
-  pub names_stand : u16_at p (at + 6) ≡ 1 → parse_names p at size ≡ good rs → Found p at size rs
+  pub names_stand : u16_at p (at + 6) ≡ 1 → parse_names p at size ≡ Ok rs → Found p at size rs
   unfolding stored_bytes body_header kind_of countable rows_of_section
   names_stand kind e =
       let (framed, held, flags) = names-good p at size rs e in
@@ -83,7 +83,7 @@ module _ (p : List ℕ) (bytes : Bytes p) (at size : ℕ) (frame : Frame p at si
 
   -- ---- arguments
 
-  pub arguments-stand : u16_at p (at + 6) ≡ 2 → parse_arguments p at size ≡ good rs → Found p at size rs
+  pub arguments-stand : u16_at p (at + 6) ≡ 2 → parse_arguments p at size ≡ Ok rs → Found p at size rs
   unfolding stored_bytes body_header kind_of countable rows_of_section
   arguments-stand kind e =
       let (framed, held, flags) = arguments-good p at size rs e in
@@ -105,7 +105,7 @@ module _ (p : List ℕ) (bytes : Bytes p) (at size : ℕ) (frame : Frame p at si
       Framed p at size 28 (u32_at p (at + 16)) →
       u16_at p (at + 12) ≡ 0 →
       u16_at p (at + 14) ≡ 0 →
-      parse_stored None p at ≡ good rs →
+      parse_stored None p at ≡ Ok rs →
       Found p at size rs
   unfolding stored_bytes body_header kind_of countable rows_of_section
   plain-stand kind framed flags compression e =
@@ -149,7 +149,7 @@ module _ (p : List ℕ) (bytes : Bytes p) (at size : ℕ) (frame : Frame p at si
       (number-below p bytes 4 (at + 8), part_bytes p bytes (at + 28) stored, number-below p bytes 4 (at + 24), number-below p bytes 4 (at + 20)) refl
       (rows ∙ rw size_is)
 
-  pub contents-stand : u16_at p (at + 6) ≡ 0 → parse_contents p at size ≡ good rs → Found p at size rs
+  pub contents-stand : u16_at p (at + 6) ≡ 0 → parse_contents p at size ≡ Ok rs → Found p at size rs
   unfolding parse_stored
   contents-stand kind e =
       let (framed, held, flags, known) = contents-good p at size rs e in
@@ -160,7 +160,7 @@ module _ (p : List ℕ) (bytes : Bytes p) (at size : ℕ) (frame : Frame p at si
           u16_at p (at + 12) ≡ 0 →
           (n : ℕ) →
           u16_at p (at + 14) ≡ n →
-          parse_stored (checked_compression n) p at ≡ good rs →
+          parse_stored (checked_compression n) p at ≡ Ok rs →
           n ≤ 1 →
           Found p at size rs
       go framed flags zero is held known = plain-stand kind framed flags is held
@@ -185,7 +185,7 @@ module _ (p : List ℕ) (bytes : Bytes p) (at size : ℕ) (frame : Frame p at si
       (rows ∙ rw size_is)
 
 module _ (p : List ℕ) (bytes : Bytes p) (at size : ℕ) (frame : Frame p at size) where
-  pub section-found : (rs : List Row) → parse_section (kind_at p at) p at size ≡ good rs → Found p at size rs
+  pub section-found : (rs : List Row) → parse_section (kind_at p at) p at size ≡ Ok rs → Found p at size rs
   unfolding parse_section
   section-found rs e = go (kind_at p at) refl e
     where
@@ -193,7 +193,7 @@ module _ (p : List ℕ) (bytes : Bytes p) (at size : ℕ) (frame : Frame p at si
       number : (kind : SourceInfoSectionType) → kind_at p at ≡ kind → u16_at p (at + 6) ≡ kind_number kind
       number kind is = sym (kind-has-number (u16_at p (at + 6))) ∙ ap kind_number is
 
-      go : (kind : SourceInfoSectionType) → kind_at p at ≡ kind → parse_section kind p at size ≡ good rs → Found p at size rs
+      go : (kind : SourceInfoSectionType) → kind_at p at ≡ kind → parse_section kind p at size ≡ Ok rs → Found p at size rs
       go SourceContents is f = contents-stand p bytes at size frame rs (number SourceContents is) f
       go SourceNames is f = names_stand p bytes at size frame rs (number SourceNames is) f
       go Arguments is f = arguments-stand p bytes at size frame rs (number Arguments is) f

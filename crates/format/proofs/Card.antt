@@ -1,12 +1,13 @@
 -- The statements of specs/Card.antt, each proved under its name: the card is the listing of the public sections, and these have a line for each
 -- fact.
 -- Assumes nothing.
+use Rattle.std.specs.Prelude.{Ok}
 use Prim.Native.Nat.{ℕ}
 use mathlib.Core.Bool.{true}
 use mathlib.Core.List.{List, [], ◌∷◌, map, flat_map}
 use mathlib.Core.Path.{◌≡◌, refl, sym, ap, ◌∙◌}
 use lib.ListN.{length, length-map, length-replicate}
-use Rattle.layout.specs.Checked.{Checked, good}
+use Rattle.layout.specs.Checked.{Checked}
 use Rattle.layout.proofs.Checked.{then-passes}
 use Rattle.format.specs.Card.{card_of, card_answer, card_output, fact_line, shown, CardOfFacts, SameCardCall}
 use Rattle.format.specs.Display.{described, page, display}
@@ -24,7 +25,7 @@ use Rattle.format.proofs.PublicSections.{public-ok, public-fits}
 use Rattle.format.proofs.Secrecy.{known, stores, placed}
 
 -- the listing of an encoding is the display of its sections
-pub listed-encoded : (ss : List Section) → All WellFormed ss → within_limits ss ≡ true → listed (encode ss) ≡ good (display ss)
+pub listed-encoded : (ss : List Section) → All WellFormed ss → within_limits ss ≡ true → listed (encode ss) ≡ Ok (display ss)
 unfolding listed
 listed-encoded ss ok fit = then-passes _ _ (read-payload ss ok fit) (then-passes _ _ (resolves ss ok (encode ss) (rows_from 8 ss) refl refl []) refl)
 
@@ -52,15 +53,15 @@ card-of-facts p h =
     let all = known p h in
     let ss : List Section = all.sections in
     then-passes _ _ all.copy (listed-encoded (public_sections ss) (public-ok ss all.ok) (public-fits ss all.fit)) ∙
-    ap {B = Checked (List ℕ)} (λ (l : List ℕ). good l) (display-shown ss) ∙
-    ap {B = Checked (List ℕ)} (λ (l : List Fact). good (shown l)) (sym all.facts)
+    ap {B = Checked (List ℕ)} (λ (l : List ℕ). Ok l) (display-shown ss) ∙
+    ap {B = Checked (List ℕ)} (λ (l : List Fact). Ok (shown l)) (sym all.facts)
 
 pub same-card-call : SameCardCall
 unfolding card_answer card_output
 same-card-call p q h k e o₁ o₂ size =
     let bytes : List ℕ = shown (public_facts p) in
     let card = card-of-facts p h in
-    let other : card_of q ≡ good bytes = card-of-facts q k ∙ ap {B = Checked (List ℕ)} (λ (l : List Fact). good (shown l)) (sym e) in (
+    let other : card_of q ≡ Ok bytes = card-of-facts q k ∙ ap {B = Checked (List ℕ)} (λ (l : List Fact). Ok (shown l)) (sym e) in (
       rw (card, other, size),
       (placed bytes (length o₁), stores (card_of p) bytes o₁ card, rw size (stores (card_of q) bytes o₂ other)),
     )

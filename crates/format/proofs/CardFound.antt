@@ -1,9 +1,10 @@
 -- The walk of specs/CardWalk.antt finds the card: where sections stand, each line's numbers are those of the section's fact.
 -- Assumes nothing.
+use Rattle.std.specs.Prelude.{Ok}
 use Prim.Native.Nat.{ℕ}
 use mathlib.Core.List.{List, map, flat_map}
 use mathlib.Core.Path.{◌≡◌, refl, sym, ap, ◌∙◌}
-use Rattle.layout.specs.Checked.{Checked, good}
+use Rattle.layout.specs.Checked.{Checked}
 use Rattle.layout.proofs.Lists.{map-flat_map}
 use Rattle.table.specs.declared.row.Row.{Row}
 use Rattle.format.specs.Card.{card_of, fact_line, shown}
@@ -35,7 +36,7 @@ line-shown p at s h = rw h.kind (go s h)
     go (unknown kind bytes) h = refl
 
 -- of an accepted payload the walk is the card
-pub card-found : (p : List ℕ) (rows : List Row) → Bytes p → parse p ≡ good rows → card_of p ≡ good (card p)
+pub card-found : (p : List ℕ) (rows : List Row) → Bytes p → parse p ≡ Ok rows → card_of p ≡ Ok (card p)
 unfolding card shown accepted facts_of
 card-found p rows bytes e =
     let all = payload-stands p bytes rows e in
@@ -44,5 +45,5 @@ card-found p rows bytes e =
     paired-flat_map (Here p) (public_line_at p) (λ (s : Section). map fact_line (fact_of s)) (line-shown p) (places p) ss (payload-here p rows all) ∙ map-flat_map fact_of fact_line ss in
     let facts : public_facts p ≡ facts_of ss = ap public_facts (sym all.is) ∙ public-facts ss all.ok all.fit in
     card-of-facts p (bytes, rw e refl) ∙
-    ap {B = Checked (List ℕ)} (λ (l : List Fact). good (shown l)) facts ∙
-    ap {B = Checked (List ℕ)} (λ (l : List (List ℕ)). good (page l)) (sym taken)
+    ap {B = Checked (List ℕ)} (λ (l : List Fact). Ok (shown l)) facts ∙
+    ap {B = Checked (List ℕ)} (λ (l : List (List ℕ)). Ok (page l)) (sym taken)

@@ -1,5 +1,6 @@
 -- The walk of specs/CopyWalk.antt finds the public sections: where sections stand, what it takes of each is the section that a public copy has.
 -- Assumes nothing.
+use Rattle.std.specs.Prelude.{Ok}
 use Prim.Native.Nat.{ℕ, ◌+◌, ◌-◌, ◌≤◌}
 use mathlib.Core.List.{List, [], ◌∷◌, ◌++◌, map, flat_map, append_assoc}
 use mathlib.Core.Path.{◌≡◌, refl, sym, ap, ap₂, ◌∙◌}
@@ -9,7 +10,7 @@ use Rattle.wire.specs.Length.{wire_size}
 use Rattle.wire.specs.Number.{u32_at}
 use Rattle.wire.specs.Padding.{padding, aligned}
 use Rattle.wire.proofs.NumberLaws.{length-bytes_of}
-use Rattle.layout.specs.Checked.{Checked, good}
+use Rattle.layout.specs.Checked.{Checked}
 use Rattle.layout.specs.Spans.{part}
 use Rattle.layout.proofs.Lists.{map-flat_map, flat_map-map}
 use Rattle.table.specs.declared.row.Row.{Row}
@@ -169,7 +170,7 @@ copies-encoded facts =
     rw (bytes, length-map facts copied, length-map facts section_of)
 
 -- of an accepted payload the walk is the public copy
-pub copy-found : (p : List ℕ) (rows : List Row) → Bytes p → parse p ≡ good rows → public_copy p ≡ good (copy p)
+pub copy-found : (p : List ℕ) (rows : List Row) → Bytes p → parse p ≡ Ok rows → public_copy p ≡ Ok (copy p)
 unfolding copy accepted facts_of
 copy-found p rows bytes e =
     let all = payload-stands p bytes rows e in
@@ -178,5 +179,5 @@ copy-found p rows bytes e =
     paired-flat_map (Here p) (copy_at p) (λ (s : Section). map copied (fact_of s)) (copy-at p) (places p) ss (payload-here p rows all) ∙ map-flat_map fact_of copied ss in
     let facts : public_facts p ≡ facts_of ss = ap public_facts (sym all.is) ∙ public-facts ss all.ok all.fit in
     copy-of-facts p (bytes, rw e refl) ∙
-    ap {B = Checked (List ℕ)} (λ (l : List Fact). good (made l)) facts ∙
-    ap {B = Checked (List ℕ)} (λ (l : List ℕ). good l) (sym (ap copy_of taken ∙ copies-encoded (facts_of ss)))
+    ap {B = Checked (List ℕ)} (λ (l : List Fact). Ok (made l)) facts ∙
+    ap {B = Checked (List ℕ)} (λ (l : List ℕ). Ok l) (sym (ap copy_of taken ∙ copies-encoded (facts_of ss)))

@@ -1,12 +1,13 @@
 -- Reading itself refuses with 1 to 15 alone, and with second number 0: every fault that a definition can come to is one of these.
 -- Assumes nothing.
+use Rattle.std.specs.Prelude.{Err}
 use Prim.Native.Nat.{ℕ, zero, suc, ◌≤◌}
 use mathlib.Core.Bool.{Bool, true, ◌&&◌, and-eq-true_iff}
 use mathlib.Core.List.{List, []}
 use mathlib.Core.Path.{◌≡◌, refl}
 use borrow.Author.Tests.{leb-true, eqb-true}
 use lib.Dec.{leb, eqb}
-use Rattle.layout.specs.Checked.{Checked, fault}
+use Rattle.layout.specs.Checked.{Checked}
 use Rattle.layout.specs.Refusals.{refusal_number, refusal_second}
 use Rattle.layout.specs.declared.compression.SourceCompression.{SourceCompression}
 use Rattle.layout.specs.declared.compression.SourceCompression.TheVariants.{None, Zlib}
@@ -93,7 +94,7 @@ unfolding parse
 whole p =
     test _ _ _ refl (test _ _ _ refl (test _ _ _ refl (test _ _ _ refl (test _ _ _ refl (all-sections _ p 8)))))
 
-pub reading-refuses : (p : List ℕ) (r : Refusal) → parse p ≡ fault r → ((1 ≤ refusal_number r) × (refusal_number r ≤ 15)) × (refusal_second r ≡ 0)
+pub reading-refuses : (p : List ℕ) (r : Refusal) → parse p ≡ Err r → ((1 ≤ refusal_number r) × (refusal_number r ≤ 15)) × (refusal_second r ≡ 0)
 reading-refuses p r e =
     let ((least, most), second) = simp and-eq-true_iff at ((whole p).only r e) in
     ((leb-true 1 (refusal_number r) least, leb-true (refusal_number r) 15 most), eqb-true (refusal_second r) 0 second)

@@ -1,13 +1,14 @@
 -- A payload that is the encoding of well-formed sections, with their rows: these, over it and whatever edit text, resolve to the sections and write
 -- the payload again; row by row they say what the sections do.
 -- Assumes nothing.
+use Rattle.std.specs.Prelude.{Ok}
 use Prim.Native.Nat.{ℕ, ◌+◌}
 use mathlib.Core.Bool.{true}
 use mathlib.Core.List.{List, ◌++◌, map, flat_map}
 use mathlib.Core.Path.{◌≡◌, sym, ap, ◌∙◌}
 use native.Mathlib.Omega.{arith}
 use lib.ListN.{length}
-use Rattle.layout.specs.Checked.{Checked, good}
+use Rattle.layout.specs.Checked.{Checked}
 use Rattle.table.specs.declared.row.Row.{Row}
 use Rattle.table.specs.declared.tag.Tag.TheVariants.{None}
 use Rattle.layout.proofs.Checked.{check-passes, then-passes}
@@ -41,16 +42,16 @@ module _ (ss : List Section) (ok : All WellFormed ss) (p : List ℕ) (rows : Lis
   pub sections-are : sections_of p edit rows ≡ ss
   sections-are = rw (its, ← is) (encoded-sections ss edit)
 
-  pub rows-obey : check_rows p edit None rows ≡ good tt
+  pub rows-obey : check_rows p edit None rows ≡ Ok tt
   rows-obey = rw (its, ← is) (rows_pass (encode ss) edit ss 8 ok (omega (arith, length-encode ss)) (stand ss) None)
 
-  pub resolves : resolve p edit rows ≡ good ss
+  pub resolves : resolve p edit rows ≡ Ok ss
   unfolding resolve
-  resolves = then-passes _ _ rows-obey (ap {B = Checked (List Section)} (λ (l : List Section). good l) sections-are)
+  resolves = then-passes _ _ rows-obey (ap {B = Checked (List Section)} (λ (l : List Section). Ok l) sections-are)
 
-  pub writes : within_limits ss ≡ true → written p edit rows ≡ good p
+  pub writes : within_limits ss ≡ true → written p edit rows ≡ Ok p
   unfolding written
-  writes fit = then-passes _ _ resolves (check-passes _ _ _ fit (ap {B = Checked (List ℕ)} (λ (l : List ℕ). good l) is))
+  writes fit = then-passes _ _ resolves (check-passes _ _ _ fit (ap {B = Checked (List ℕ)} (λ (l : List ℕ). Ok l) is))
 
   pub rows-say : map (said p edit) rows ≡ flat_map said_of ss
   rows-say = sym (said-by-sections p edit rows rows-obey) ∙ ap (λ (l : List Section). flat_map said_of l) sections-are

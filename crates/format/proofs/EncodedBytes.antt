@@ -44,10 +44,10 @@ pad {s} h = both h (zeros (padding (length s)))
 closed : (s : List ℕ) → Text s → AllBytes (terminate s)
 closed s ok = both {s = s} (record { all = well-formed-bytes s ok.utf8 }) (zeros 1)
 
-run : {A : Type 0} (Ok : A → Type 0) (f : A → List ℕ) → ((a : A) → Ok a → AllBytes (f a)) → (l : List A) → All Ok l → AllBytes (flat_map f l)
+run : {A : Type 0} (Good : A → Type 0) (f : A → List ℕ) → ((a : A) → Good a → AllBytes (f a)) → (l : List A) → All Good l → AllBytes (flat_map f l)
 unfolding flat_map
-run Ok f h [] oks = zeros 0
-run Ok f h (a ∷ l) (ok, oks) = both (h a ok) (run Ok f h l oks)
+run Good f h [] oks = zeros 0
+run Good f h (a ∷ l) (ok, oks) = both (h a ok) (run Good f h l oks)
 
 -- ---- entries
 

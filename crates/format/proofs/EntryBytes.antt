@@ -1,6 +1,7 @@
 -- An entry is good exactly where its bytes stand. Entries of names and of contents are one law: `middle` is what a header has between the
 -- text's size and the text, which is nothing for a content and the content size for a name.
 -- Assumes nothing.
+use Rattle.std.specs.Prelude.{Ok}
 use Prim.Native.Nat.{ℕ, ◌+◌, ◌≤◌}
 use mathlib.Core.List.{List, [], ◌∷◌, ◌++◌}
 use mathlib.Core.Path.{◌≡◌, refl, sym, ap, ◌∙◌}
@@ -10,7 +11,6 @@ use Rattle.wire.specs.Length.{wire_size}
 use Rattle.wire.specs.Padding.{padding, aligned}
 use Rattle.wire.proofs.NumberLaws.{length-bytes_of}
 use Rattle.wire.proofs.PaddingLaws.{le-aligned}
-use Rattle.layout.specs.Checked.{good}
 use Rattle.layout.specs.Spans.{part}
 use Rattle.format.specs.Encoding.{u32, padded, terminate, content_entry, name_entry, limit}
 use Rattle.format.specs.Parse.{entry, after_entry}
@@ -116,7 +116,7 @@ module _ (header : ℕ) (middle : List ℕ) (sum : header ≡ 12 + length middle
         Bytes p →
         Stands p (at + 12) middle →
         (n : ℕ) →
-        entry header p at end ≡ good n →
+        entry header p at end ≡ Ok n →
         (let text : List ℕ = part p (at + header) n in
         Stands p at (entry_bytes header middle text)
         × Text text
@@ -139,7 +139,7 @@ module _ (header : ℕ) (middle : List ℕ) (sum : header ≡ 12 + length middle
         Text text →
         at + length (entry_bytes header middle text) ≤ end →
         Stands p at (entry_bytes header middle text) →
-        (entry header p at end ≡ good (length text))
+        (entry header p at end ≡ Ok (length text))
         × Stands p (at + 12) middle
         × (after_entry header at (length text) ≡ at + length (entry_bytes header middle text))
     stands-entry small text ok within s =

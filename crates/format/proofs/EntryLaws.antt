@@ -1,5 +1,6 @@
 -- What an entry and a run of entries say where they are good; and an entry of which all that is said is good.
 -- Assumes nothing.
+use Rattle.std.specs.Prelude.{Ok}
 use Prim.Native.Nat.{ℕ, zero, suc, ◌+◌, ◌-◌, ◌*◌, ◌≤◌}
 use mathlib.Core.List.{List, [], ◌∷◌}
 use mathlib.Core.Bool.{true}
@@ -11,7 +12,6 @@ use Rattle.wire.specs.Length.{wire_size}
 use Rattle.wire.specs.Number.{byte_at, u32_at}
 use Rattle.wire.specs.Padding.{padding, aligned, all_zero}
 use Rattle.wire.proofs.PaddingLaws.{aligned-by-arithmetic, le-aligned}
-use Rattle.layout.specs.Checked.{good}
 use Rattle.table.specs.declared.row.Row.{Row}
 use Rattle.layout.specs.TextCheck.{check_text}
 use Rattle.layout.specs.Spans.{part}
@@ -28,12 +28,12 @@ pub record Entry (header : ℕ) (p : List ℕ) (at end n : ℕ) : Type 0 where
   pub text : u32_at p (at + 8) ≡ wire_size n
   pub size : u32_at p at ≡ aligned (header + wire_size n)
   -- its text passes the check, and has a NUL and zeros after it
-  pub checked : check_text p (at + header) n ≡ good tt
+  pub checked : check_text p (at + header) n ≡ Ok tt
   pub closed : byte_at p (at + header + n) ≡ 0
   pub padded : all_zero (part p (at + header + wire_size n) (padding (header + wire_size n))) ≡ true
 
 module _ (header : ℕ) (p : List ℕ) (at end n : ℕ) where
-  pub entry-good : entry header p at end ≡ good n → Entry header p at end n
+  pub entry-good : entry header p at end ≡ Ok n → Entry header p at end n
   unfolding entry terminated_text
   entry-good e =
       let long = check-good _ _ _ _ e in
@@ -57,7 +57,7 @@ module _ (header : ℕ) (p : List ℕ) (at end n : ℕ) where
         padded = rw (← text) zeros.0;
       }
 
-  pub entry_found : Entry header p at end n → entry header p at end ≡ good n
+  pub entry_found : Entry header p at end n → entry header p at end ≡ Ok n
   unfolding entry terminated_text
   entry_found g =
       let last : wire_size n - 1 ≡ n = omega arith in
@@ -76,7 +76,7 @@ module _ (header : ℕ) (p : List ℕ) (at end n : ℕ) where
 
 module _ (header : ℕ) (p : List ℕ) (end : ℕ) where
   -- a good run is none at its end, or a good entry before a good run
-  pub entries_none : (row_of : ℕ → ℕ → Row) (at : ℕ) (rs : List Row) → entries header row_of 0 p at end ≡ good rs → (at ≡ end) × (rs ≡ [])
+  pub entries_none : (row_of : ℕ → ℕ → Row) (at : ℕ) (rs : List Row) → entries header row_of 0 p at end ≡ Ok rs → (at ≡ end) × (rs ≡ [])
   unfolding entries
   entries_none row_of at rs e =
       let ended = check-good _ _ _ _ e in
@@ -84,8 +84,8 @@ module _ (header : ℕ) (p : List ℕ) (end : ℕ) where
 
   pub entries-first :
       (row_of : ℕ → ℕ → Row) (count at : ℕ) (rs : List Row) →
-      entries header row_of (suc count) p at end ≡ good rs →
-      (n : ℕ) × (rest : List Row) × (entry header p at end ≡ good n) × (entries header row_of count p (after_entry header at n) end ≡ good rest) × (rs ≡ row_of at n ∷ rest)
+      entries header row_of (suc count) p at end ≡ Ok rs →
+      (n : ℕ) × (rest : List Row) × (entry header p at end ≡ Ok n) × (entries header row_of count p (after_entry header at n) end ≡ Ok rest) × (rs ≡ row_of at n ∷ rest)
   unfolding entries
   entries-first row_of count at rs e =
       let (n, first, after) = then-good _ _ _ e in
@@ -93,7 +93,7 @@ module _ (header : ℕ) (p : List ℕ) (end : ℕ) where
       (n, rest, first, others, cc)
 
   -- a row for every entry, and at least 2 bytes for every row
-  pub entries-bound : (row_of : ℕ → ℕ → Row) (count at : ℕ) (rs : List Row) → entries header row_of count p at end ≡ good rs → (at + 2 * length rs ≤ end) × (length rs ≡ count)
+  pub entries-bound : (row_of : ℕ → ℕ → Row) (count at : ℕ) (rs : List Row) → entries header row_of count p at end ≡ Ok rs → (at + 2 * length rs ≤ end) × (length rs ≡ count)
   entries-bound row_of zero at rs e =
       let none = entries_none row_of at rs e in
       (omega (arith, none.0, ap length none.1), ap length none.1)

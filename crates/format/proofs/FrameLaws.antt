@@ -1,5 +1,6 @@
 -- What a section's header and what is around its stored bytes say where they are good; and both are good where all of that holds.
 -- Assumes nothing.
+use Rattle.std.specs.Prelude.{Ok}
 use Prim.Native.Nat.{ℕ, ◌+◌, ◌%◌, ◌≤◌}
 use mathlib.Core.Bool.{true}
 use mathlib.Core.List.{List}
@@ -10,7 +11,6 @@ use lib.ListN.{length}
 use Rattle.wire.specs.Number.{u16_at, u32_at}
 use Rattle.wire.specs.Padding.{padding, aligned, all_zero}
 use Rattle.wire.proofs.PaddingLaws.{le-aligned}
-use Rattle.layout.specs.Checked.{good}
 use Rattle.layout.specs.Spans.{part}
 use Rattle.layout.proofs.Checked.{check-good, check-passes}
 use Rattle.format.specs.Parse.{frame, framed}
@@ -24,7 +24,7 @@ pub record Frame (p : List ℕ) (at size : ℕ) : Type 0 where
   pub flags : u16_at p (at + 4) ≡ 0
 
 module _ (p : List ℕ) (at size : ℕ) where
-  pub frame-good : frame p at ≡ good size → Frame p at size
+  pub frame-good : frame p at ≡ Ok size → Frame p at size
   unfolding frame
   frame-good e =
       let there = check-good _ _ _ _ e in
@@ -42,7 +42,7 @@ module _ (p : List ℕ) (at size : ℕ) where
         flags = eqb-true _ _ no-flags.0;
       }
 
-  pub frame_found : Frame p at size → frame p at ≡ good size
+  pub frame_found : Frame p at size → frame p at ≡ Ok size
   unfolding frame
   frame_found g =
       rw (← g.is)
@@ -58,13 +58,13 @@ pub record Framed (p : List ℕ) (at size headers bytes : ℕ) : Type 0 where
   pub within : headers + bytes ≤ size
 
 module _ (p : List ℕ) (at size headers bytes : ℕ) where
-  pub framed-good : framed p at size headers bytes ≡ good tt → Framed p at size headers bytes
+  pub framed-good : framed p at size headers bytes ≡ Ok tt → Framed p at size headers bytes
   unfolding framed
   framed-good e =
       let whole = check-good _ _ _ _ e in
       let sized : size ≡ aligned (headers + bytes) = eqb-true _ _ whole.0 in
       record { sized = sized; zeros = (check-good _ _ _ _ whole.1).0; within = omega (arith, le-aligned (headers + bytes)) }
 
-  pub framed-found : Framed p at size headers bytes → framed p at size headers bytes ≡ good tt
+  pub framed-found : Framed p at size headers bytes → framed p at size headers bytes ≡ Ok tt
   unfolding framed
   framed-found g = check-passes _ _ _ (eq-eqb size (aligned (headers + bytes)) g.sized) (check-passes _ _ _ g.zeros refl)

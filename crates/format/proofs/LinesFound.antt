@@ -1,5 +1,6 @@
 -- The walk of specs/Lines.antt finds the listing: where sections stand, each line's numbers are those of the section's headers.
 -- Assumes nothing.
+use Rattle.std.specs.Prelude.{Ok}
 use Prim.Native.Nat.{ℕ, ◌+◌, ◌-◌}
 use mathlib.Core.List.{List, [], map}
 use mathlib.Core.Path.{◌≡◌, sym, ap, ◌∙◌}
@@ -8,7 +9,7 @@ use lib.ListN.{length}
 use Rattle.wire.specs.Number.{u32_at}
 use Rattle.wire.specs.Padding.{aligned}
 use Rattle.wire.proofs.PaddingLaws.{aligned-of-multiple}
-use Rattle.layout.specs.Checked.{Checked, good}
+use Rattle.layout.specs.Checked.{Checked}
 use Rattle.table.specs.declared.row.Row.{Row}
 use Rattle.format.specs.Display.{described, unknown_line, page, display}
 use Rattle.format.specs.Encoding.{stored_bytes, kind_of}
@@ -39,12 +40,12 @@ line-found p at s h = rw h.kind (go s h)
         ap (unknown_line kind) whole
 
 -- of an accepted payload the walk is the listing
-pub listing-found : (p : List ℕ) (rows : List Row) → Bytes p → parse p ≡ good rows → listed p ≡ good (listing p)
+pub listing-found : (p : List ℕ) (rows : List Row) → Bytes p → parse p ≡ Ok rows → listed p ≡ Ok (listing p)
 unfolding display listing
 listing-found p rows bytes e =
     let all = payload-stands p bytes rows e in
     let ss : List Section = all.sections in
     let same : map described ss ≡ map (line_at p) (places p) = sym (paired-map (Here p) (line_at p) described (line-found p) (places p) ss (payload-here p rows all)) in
     lists-sections p rows bytes e ∙
-    ap {B = Checked (List ℕ)} (λ (l : List Section). good (display l)) (sections-are ss all.ok p rows all.is all.rows []) ∙
-    ap {B = Checked (List ℕ)} (λ (l : List (List ℕ)). good (page l)) same
+    ap {B = Checked (List ℕ)} (λ (l : List Section). Ok (display l)) (sections-are ss all.ok p rows all.is all.rows []) ∙
+    ap {B = Checked (List ℕ)} (λ (l : List (List ℕ)). Ok (page l)) same

@@ -1,6 +1,8 @@
 -- Measure, then store: a call that writes what a walk finds twice, first to an output of no bytes. What it answers and leaves is what its job's definition says:
 -- one law for the listing, the card and the public copy.
 -- Assumes nothing.
+use Rattle.std.specs.Prelude.{Err, Ok}
+use Rattle.layout.specs.Refusals.{Answer}
 use Prim.Native.Nat.{ℕ, ◌≤◌, ◌<◌}
 use mathlib.Core.List.{List, [], ◌++◌}
 use mathlib.Core.Path.{◌≡◌, sym, ap, ◌∙◌}
@@ -8,9 +10,7 @@ use native.Mathlib.Omega.{arith}
 use lib.ListN.{length}
 use lib.Seq.{sets}
 use Rattle.wire.proofs.Sets.{sets-past}
-use Rattle.layout.specs.Checked.{Checked, fault, good}
-use Rattle.layout.specs.declared.refusal.Answer.{Answer}
-use Rattle.layout.specs.declared.refusal.Answer.TheVariants.{Accepted, Refused}
+use Rattle.layout.specs.Checked.{Checked}
 use Rattle.layout.specs.declared.refusal.Refusal.{Refusal}
 use Rattle.layout.specs.declared.refusal.Refusal.TheVariants.{NoRoom}
 use Rattle.layout.proofs.Checked.{after-fault, is-good}
@@ -33,8 +33,8 @@ use Rattle.format.proofs.Output.{refused, told-no-room, told-room}
 
 -- a job by a walk: it refuses what reading refuses, and makes of any other payload what the walk finds
 pub record ByWalk (made : List ℕ → Checked (List ℕ)) (walk : List ℕ → List ℕ) : Type 0 where
-  pub refuses : (p : List ℕ) {refusal : Refusal} → parse p ≡ fault refusal → made p ≡ fault refusal
-  pub finds : (p : List ℕ) (rows : List Row) → Bytes p → parse p ≡ good rows → made p ≡ good (walk p)
+  pub refuses : (p : List ℕ) {refusal : Refusal} → parse p ≡ Err refusal → made p ≡ Err refusal
+  pub finds : (p : List ℕ) (rows : List Row) → Bytes p → parse p ≡ Ok rows → made p ≡ Ok (walk p)
 
 pub listing-by-walk : ByWalk listed listing
 unfolding listed
@@ -53,14 +53,14 @@ module _ {made : List ℕ → Checked (List ℕ)} {walk : List ℕ → List ℕ}
   abbrev pub Met : Answer → List ℕ → Type 0
   Met told after = (told ≡ answer (made p) (length output)) × (after ≡ output_after (made p) output)
 
-  pub met-refused : {refusal : Refusal} → parse p ≡ fault refusal → Met (Refused refusal) output
+  pub met-refused : {refusal : Refusal} → parse p ≡ Err refusal → Met (Err refusal) output
   met-refused e =
       let (told, after) = refused (made p) output (job.refuses p e) in
       (sym told, sym after)
 
   -- of an accepted payload, with the answer to the first writing, and what that leaves of no bytes
   module _ (whole : AcceptedPayload p) {size : ℕ} {none : List ℕ} (measured : (size ≡ length (walk p)) × (none ≡ sets [] 0 (walk p))) where
-    found : made p ≡ good (walk p)
+    found : made p ≡ Ok (walk p)
     unfolding accepted
     found =
         let (rows, e) = is-good (parse p) whole.1 in
@@ -69,12 +69,12 @@ module _ {made : List ℕ → Checked (List ℕ)} {walk : List ℕ → List ℕ}
     untouched : none ++ output ≡ output
     untouched = ap (λ (l : List ℕ). l ++ output) (measured.1 ∙ sets-past (walk p) [] 0 (omega arith))
 
-    pub met-short : length output < size → Met (Refused (NoRoom size)) (none ++ output)
+    pub met-short : length output < size → Met (Err (NoRoom size)) (none ++ output)
     met-short short =
         let (told, after) = told-no-room (made p) output found size measured.0 short in
         (told, untouched ∙ after)
 
-    pub met-stored : {after : List ℕ} → size ≤ length output → after ≡ sets (none ++ output) 0 (walk p) → Met (Accepted size) after
+    pub met-stored : {after : List ℕ} → size ≤ length output → after ≡ sets (none ++ output) 0 (walk p) → Met (Ok size) after
     met-stored room stored =
         let (told, after) = told-room (made p) output found size measured.0 room in
         (told, stored ∙ ap (λ (l : List ℕ). sets l 0 (walk p)) untouched ∙ after)

@@ -1,5 +1,6 @@
 -- The texts of a pair, and a pair, are good exactly where their bytes stand.
 -- Assumes nothing.
+use Rattle.std.specs.Prelude.{Ok}
 use Prim.Native.Nat.{ℕ, ◌+◌, ◌-◌, ◌≤◌, ◌<◌}
 use mathlib.Core.List.{List, [], ◌∷◌, append_assoc}
 use mathlib.Core.Path.{◌≡◌, sym, ap, ◌∙◌}
@@ -10,7 +11,7 @@ use lib.Seq.{get_or-drop}
 use Rattle.find.specs.Nul.{until_nul}
 use Rattle.find.proofs.NulLaws.{until-at, until-closed, until-prefix}
 use Rattle.wire.specs.Length.{wire_size}
-use Rattle.layout.specs.Checked.{Checked, good}
+use Rattle.layout.specs.Checked.{Checked}
 use Rattle.layout.specs.Spans.{span, part}
 use Rattle.table.specs.Rows.{pair_row}
 use Rattle.table.specs.declared.row.Row.{Row}
@@ -34,7 +35,7 @@ nul-found p at text ok s =
     ap until_nul (s ∙ append_assoc text (0 ∷ []) after) ∙ until-closed text after (ltb-false (until_nul text) (length text) ok.closed)
 
 module _ (p : List ℕ) (at end : ℕ) (inside : end ≤ length p) where
-  pub text-stands : (n : ℕ) → pair_text p at end ≡ good n → Stands p at (terminate (part p at n)) × Text (part p at n)
+  pub text-stands : (n : ℕ) → pair_text p at end ≡ Ok n → Stands p at (terminate (part p at n)) × Text (part p at n)
   text-stands n e =
       let (within, until, passed) = pair_text-good p at end n e in
       let room : at + n ≤ length p = omega arith in
@@ -46,18 +47,18 @@ module _ (p : List ℕ) (at end : ℕ) (inside : end ≤ length p) where
         text-ok p at n passed,
       )
 
-  pub stands-text : (text : List ℕ) → Text text → at + wire_size (length text) ≤ end → Stands p at (terminate text) → pair_text p at end ≡ good (length text)
+  pub stands-text : (text : List ℕ) → Text text → at + wire_size (length text) ≤ end → Stands p at (terminate text) → pair_text p at end ≡ Ok (length text)
   stands-text text ok within s =
       let whole = nul-found p at text ok s in
       let found : until_nul (run p at end) ≡ length text = until-prefix (drop at p) (end - at) (omega (arith, whole)) ∙ whole in
       let this : part p at (length text) ≡ text = stands-part p at text (stands-first p at text (0 ∷ []) s) in
       text-passed p at end (omega (arith, found, length_run p at end inside)) (ok-text p at _ text (ap (λ (k : ℕ). part p at k) found ∙ this) ok) ∙
-      ap {B = Checked ℕ} (λ (k : ℕ). good k) found
+      ap {B = Checked ℕ} (λ (k : ℕ). Ok k) found
 
 -- ---- a pair
 
 module _ (p : List ℕ) (at end : ℕ) (inside : end ≤ length p) where
-  pub pair-stands : (r : Row) → pair p at end ≡ good r → (x : Pair) × Stands p at (pair_entry x) × PairOk x × (r ≡ pair_placed at x)
+  pub pair-stands : (r : Row) → pair p at end ≡ Ok r → (x : Pair) × Stands p at (pair_entry x) × PairOk x × (r ≡ pair_placed at x)
   unfolding pair pair_entry
   pair-stands r e =
       let (n, name-good, after) = then-good _ _ _ e in
@@ -77,7 +78,7 @@ module _ (p : List ℕ) (at end : ℕ) (inside : end ≤ length p) where
         sym same ∙ rw (name-size, value-size),
       )
 
-  pub stands-pair : (x : Pair) → PairOk x → at + length (pair_entry x) ≤ end → Stands p at (pair_entry x) → pair p at end ≡ good (pair_placed at x)
+  pub stands-pair : (x : Pair) → PairOk x → at + length (pair_entry x) ≤ end → Stands p at (pair_entry x) → pair p at end ≡ Ok (pair_placed at x)
   unfolding pair_entry
   stands-pair x ok within s =
       let name : List ℕ = x.name in

@@ -1,5 +1,6 @@
 -- What the texts, the pairs and the runs of pairs of an arguments section are, test by test; and where each lies where it is good.
 -- Assumes nothing.
+use Rattle.std.specs.Prelude.{Err, Ok}
 use Prim.Native.Nat.{ℕ, zero, suc, ◌+◌, ◌-◌, ◌*◌, ◌≤◌, ◌<◌}
 use mathlib.Core.Bool.{true, false}
 use mathlib.Core.List.{List, [], ◌∷◌}
@@ -13,7 +14,7 @@ use Rattle.find.proofs.NulLaws.{until-take, until-prefix, until-in-prefix, until
 use Rattle.wire.specs.Length.{wire_size}
 use Rattle.utf8.specs.Rfc3629.{well_formed}
 use Rattle.utf8.proofs.Laws.{ascii-well-formed}
-use Rattle.layout.specs.Checked.{Checked, fault, good, check, then}
+use Rattle.layout.specs.Checked.{Checked, check, then}
 use Rattle.layout.specs.Spans.{span, part}
 use Rattle.layout.specs.TextCheck.{check_text}
 use Rattle.table.specs.Rows.{pair_row}
@@ -35,7 +36,7 @@ length_run p at end h = simp (length-take, length-drop) (omega arith)
 module _ (p : List ℕ) (at end : ℕ) where
   -- ---- a text
 
-  pub text-open : length (run p at end) ≤ until_nul (run p at end) → pair_text p at end ≡ fault OpenText
+  pub text-open : length (run p at end) ≤ until_nul (run p at end) → pair_text p at end ≡ Err OpenText
   unfolding pair_text check
   text-open h = rw (le-ltb (until_nul (run p at end)) (length (run p at end)) h)
 
@@ -47,15 +48,15 @@ module _ (p : List ℕ) (at end : ℕ) where
     no_nul : length (part p at n) ≤ until_nul (part p at n)
     no_nul = omega (arith, until-take (drop at p) n (omega (arith, until-in-prefix (drop at p) (end - at) h)))
 
-    pub text-ill-formed : well_formed (part p at n) ≡ false → pair_text p at end ≡ fault NotUtf8
+    pub text-ill-formed : well_formed (part p at n) ≡ false → pair_text p at end ≡ Err NotUtf8
     unfolding pair_text check
     text-ill-formed e = rw (lt-ltb (until_nul (run p at end)) (length (run p at end)) h) (after-fault _ _ (check-not-utf8 p at n _ refl e))
 
-    pub text-passed : check_text p at n ≡ good tt → pair_text p at end ≡ good n
+    pub text-passed : check_text p at n ≡ Ok tt → pair_text p at end ≡ Ok n
     unfolding pair_text check
     text-passed e = rw (lt-ltb (until_nul (run p at end)) (length (run p at end)) h) (after-good _ _ e)
 
-    pub text-well-formed : well_formed (part p at n) ≡ true → pair_text p at end ≡ good n
+    pub text-well-formed : well_formed (part p at n) ≡ true → pair_text p at end ≡ Ok n
     text-well-formed e = text-passed (check-passed p at n _ refl e no_nul)
 
   -- bytes of ASCII that are no NUL, from the place up to `stop`, and a NUL there: a text
@@ -66,7 +67,7 @@ module _ (p : List ℕ) (at end : ℕ) where
       end ≤ length p →
       ((k : ℕ) → k < stop → at ≤ k → (0 < get_or p k 0) × (get_or p k 0 < 0x80)) →
       get_or p stop 0 ≡ 0 →
-      pair_text p at end ≡ good (stop - at)
+      pair_text p at end ≡ Ok (stop - at)
   text-plain stop h l m plain e =
       let n : ℕ = stop - at in
       let here : at + n ≡ stop = omega arith in
@@ -79,10 +80,10 @@ module _ (p : List ℕ) (at end : ℕ) where
       let inside : k < n = omega (arith, length-take n (drop at p)) in
       rw (get_or-take n (drop at p) k 0 inside, get_or-drop at p k 0) (byte k inside).1 in
       text-well-formed (omega (arith, length_run p at end m)) (ap (λ (k : ℕ). well_formed (part p at k)) found ∙ ascii-well-formed (part p at n) ascii) ∙
-      ap {B = Checked ℕ} (λ (k : ℕ). good k) found
+      ap {B = Checked ℕ} (λ (k : ℕ). Ok k) found
 
   -- a good text passes the check, and ends before `end`, at the first NUL of all the bytes from its place on
-  pub pair_text-good : (n : ℕ) → pair_text p at end ≡ good n → (at + wire_size n ≤ end) × (n ≡ until_nul (drop at p)) × (check_text p at n ≡ good tt)
+  pub pair_text-good : (n : ℕ) → pair_text p at end ≡ Ok n → (at + wire_size n ≤ end) × (n ≡ until_nul (drop at p)) × (check_text p at n ≡ Ok tt)
   unfolding pair_text
   pair_text-good n e =
       let ended = check-good _ _ _ _ e in
@@ -96,21 +97,21 @@ module _ (p : List ℕ) (at end : ℕ) where
 
   -- ---- a pair
 
-  pub pair-no-name : {refusal : Refusal} → pair_text p at end ≡ fault refusal → pair p at end ≡ fault refusal
+  pub pair-no-name : {refusal : Refusal} → pair_text p at end ≡ Err refusal → pair p at end ≡ Err refusal
   unfolding pair then
   pair-no-name e = rw e
 
-  module _ (name : ℕ) (e : pair_text p at end ≡ good name) where
-    pub pair-no-value : {refusal : Refusal} → pair_text p (at + wire_size name) end ≡ fault refusal → pair p at end ≡ fault refusal
+  module _ (name : ℕ) (e : pair_text p at end ≡ Ok name) where
+    pub pair-no-value : {refusal : Refusal} → pair_text p (at + wire_size name) end ≡ Err refusal → pair p at end ≡ Err refusal
     unfolding pair then
     pair-no-value f = rw (e, f)
 
-    pub pair_found : (value : ℕ) → pair_text p (at + wire_size name) end ≡ good value → pair p at end ≡ good (pair_row (span 0 at name) (span 0 (at + wire_size name) value))
+    pub pair_found : (value : ℕ) → pair_text p (at + wire_size name) end ≡ Ok value → pair p at end ≡ Ok (pair_row (span 0 at name) (span 0 (at + wire_size name) value))
     unfolding pair then
     pair_found value f = rw (e, f)
 
 -- a good pair has a NUL after each of its texts, both before `end`, and is the one that the walk finds
-pub pair-good : (p : List ℕ) (at end : ℕ) (r : Row) → pair p at end ≡ good r → (at + 2 ≤ after_pair r) × (after_pair r ≤ end) × (r ≡ pair_at p at)
+pub pair-good : (p : List ℕ) (at end : ℕ) (r : Row) → pair p at end ≡ Ok r → (at + 2 ≤ after_pair r) × (after_pair r ≤ end) × (r ≡ pair_at p at)
 unfolding pair
 pair-good p at end r e =
     let (n, name-found, after) = then-good _ _ _ e in
@@ -126,7 +127,7 @@ pair-good p at end r e =
 -- ---- pairs
 
 module _ (p : List ℕ) (end : ℕ) where
-  pub pairs-bound : (count at : ℕ) (rs : List Row) → pairs count p at end ≡ good rs → (at + 2 * length rs ≤ end) × (length rs ≡ count)
+  pub pairs-bound : (count at : ℕ) (rs : List Row) → pairs count p at end ≡ Ok rs → (at + 2 * length rs ≤ end) × (length rs ≡ count)
   unfolding pairs
   pairs-bound zero at rs e =
       let ended = check-good _ _ _ _ e in

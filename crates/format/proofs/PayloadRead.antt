@@ -1,5 +1,6 @@
 -- The encoding of well-formed sections within the limits is accepted, and its rows are theirs.
 -- Assumes nothing.
+use Rattle.std.specs.Prelude.{Ok}
 use Prim.Native.Nat.{ℕ, ◌+◌, ◌%◌, ◌≤◌}
 use mathlib.Core.Bool.{true, and-eq-true_iff}
 use mathlib.Core.List.{List, [], ◌∷◌, ◌++◌, flat_map}
@@ -9,7 +10,6 @@ use borrow.Author.Tests.{le-leb, eq-eqb}
 use lib.ListN.{length, length-append}
 use Rattle.wire.specs.Number.{u16_at, u32_at}
 use Rattle.wire.specs.Padding.{aligned}
-use Rattle.layout.specs.Checked.{good}
 use Rattle.layout.proofs.Checked.{check-passes, then-passes}
 use Rattle.format.specs.Encoding.{u16, u32, limit, encode_section, encode, all_countable, within_limits}
 use Rattle.format.specs.Parse.{parse_sections, parse}
@@ -30,7 +30,7 @@ read-sections :
     all_countable ss ≡ true →
     at + length (flat_map encode_section ss) ≡ length p →
     Stands p at (flat_map encode_section ss) →
-    parse_sections (length ss) p at ≡ good (rows_from at ss)
+    parse_sections (length ss) p at ≡ Ok (rows_from at ss)
 unfolding parse_sections flat_map rows_from all_countable
 read-sections p small [] at ok fit ends stand = check-passes _ _ _ (eq-eqb at (length p) (omega arith)) refl
 read-sections p small (s ∷ ss) at (ok, oks) fit ends stand =
@@ -59,7 +59,7 @@ main-header ss fit =
     let (many, h₃) = stands-number p 2 6 8 (length ss) _ (omega arith) (omega (arith, few)) h₂ in
     (long ∙ sym size, flags, many, h₃)
 
-pub read-payload : (ss : List Section) → All WellFormed ss → within_limits ss ≡ true → parse (encode ss) ≡ good (rows_from 8 ss)
+pub read-payload : (ss : List Section) → All WellFormed ss → within_limits ss ≡ true → parse (encode ss) ≡ Ok (rows_from 8 ss)
 unfolding parse
 read-payload ss ok fit =
     let (few, all_fit, small) = limits-good ss fit in

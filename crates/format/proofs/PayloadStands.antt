@@ -1,5 +1,6 @@
 -- An accepted payload is the encoding of well-formed sections within the limits, and its rows are those of these sections.
 -- Assumes nothing.
+use Rattle.std.specs.Prelude.{Ok}
 use Prim.Native.Nat.{ℕ, zero, suc, ◌+◌, ◌≤◌}
 use mathlib.Core.Bool.{true, ◌&&◌}
 use mathlib.Core.List.{List, [], ◌∷◌, ◌++◌, flat_map}
@@ -7,7 +8,6 @@ use mathlib.Core.Path.{◌≡◌, refl, sym, ap, ap₂, ◌∙◌}
 use native.Mathlib.Omega.{arith}
 use lib.ListN.{length, length-append}
 use Rattle.wire.specs.Number.{u16_at, u32_at}
-use Rattle.layout.specs.Checked.{good}
 use Rattle.table.specs.declared.row.Row.{Row}
 use Rattle.format.specs.Encoding.{limit, encode_section, encode, all_countable, within_limits}
 use Rattle.format.specs.Parse.{parse_sections, parse}
@@ -29,7 +29,7 @@ pub record Sections (p : List ℕ) (at count : ℕ) (rs : List Row) : Type 0 whe
   pub fit : all_countable sections ≡ true
   pub rows : rs ≡ rows_from at sections
 
-sections-stand : (p : List ℕ) → Bytes p → (count at : ℕ) (rs : List Row) → parse_sections count p at ≡ good rs → Sections p at count rs
+sections-stand : (p : List ℕ) → Bytes p → (count at : ℕ) (rs : List Row) → parse_sections count p at ≡ Ok rs → Sections p at count rs
 unfolding flat_map rows_from all_countable
 sections-stand p bytes zero at rs e =
     let (ends, none) = sections-end p at rs e in
@@ -64,7 +64,7 @@ pub record Payload (p : List ℕ) (rs : List Row) : Type 0 where
   pub is : encode sections ≡ p
   pub rows : rs ≡ rows_from 8 sections
 
-pub payload-stands : (p : List ℕ) → Bytes p → (rs : List Row) → parse p ≡ good rs → Payload p rs
+pub payload-stands : (p : List ℕ) → Bytes p → (rs : List Row) → parse p ≡ Ok rs → Payload p rs
 unfolding encode
 payload-stands p bytes rs e =
     let (small, found, least, long, flags) = parse-good p rs e in

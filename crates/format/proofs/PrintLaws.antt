@@ -1,5 +1,6 @@
 -- What a program prints, by what the job answers for an output of as many bytes as are printed at most.
 -- Assumes nothing.
+use Rattle.std.specs.Prelude.{Err, Ok}
 use Prim.Native.Nat.{ℕ, ◌≤◌, ◌<◌}
 use mathlib.Core.Bool.{Bool, true, false, cond}
 use mathlib.Core.List.{List, [], ◌∷◌, ◌++◌}
@@ -10,12 +11,10 @@ use borrow.Author.Tests.{le-leb, lt-leb}
 use lib.Dec.{leb}
 use lib.ListN.{length, drop, length-append}
 use lib.Seq.{sets, sets-eq}
-use Rattle.layout.specs.Checked.{Checked, fault, good}
-use Rattle.layout.specs.Refusals.{refusal_number}
+use Rattle.layout.specs.Checked.{Checked}
+use Rattle.layout.specs.Refusals.{refusal_number, Answer}
 use Rattle.layout.specs.declared.refusal.Refusal.{Refusal}
 use Rattle.layout.specs.declared.refusal.Refusal.TheVariants.{Oversize, Ragged, MainHeader, Frame, Flag, Short, BodySize, Padding, EntrySize, OpenText, NotUtf8, InnerNul, Leftover, Compression, Unequal, NoRows, BadRow, WontFit, NoRoom, BadLine}
-use Rattle.layout.specs.declared.refusal.Answer.{Answer}
-use Rattle.layout.specs.declared.refusal.Answer.TheVariants.{Accepted, Refused}
 use Rattle.format.specs.Display.{ascii, decimal}
 use Rattle.format.specs.Output.{answer, output_after}
 use Rattle.format.specs.Print.{print_limit, refused_line, longer_line, told, told_length, outcome, printed}
@@ -67,15 +66,15 @@ module _ (output : List ℕ) (whole : length output ≡ print_limit) where
   -- an accepted outcome is stored, and printed
   pub outcome-accepted :
       (made : Checked (List ℕ)) (count : ℕ) →
-      answer made (length output) ≡ Accepted count →
+      answer made (length output) ≡ Ok count →
       (count ≡ length (outcome made)) × (output_after made output ≡ outcome made ++ drop (length (outcome made)) output)
   unfolding answer output_after outcome
-  outcome-accepted (fault refusal) count e = let z : ◌≡◌ {A = ℕ} 0 1 = cc in absurd (omega arith)
-  outcome-accepted (good q) count e = rw whole (go (leb (length q) print_limit) (rw whole at e))
+  outcome-accepted (Err refusal) count e = let z : ◌≡◌ {A = ℕ} 0 1 = cc in absurd (omega arith)
+  outcome-accepted (Ok q) count e = rw whole (go (leb (length q) print_limit) (rw whole at e))
     where
       go :
           (fits : Bool) →
-          cond fits (Accepted (length q)) (Refused (NoRoom (length q))) ≡ Accepted count →
+          cond fits (Ok (length q)) (Err (NoRoom (length q))) ≡ Ok count →
           (let said : List ℕ = cond fits q (refused_line (NoRoom (length q))) in
           (count ≡ length said) × (cond fits (q ++ drop (length q) output) output ≡ said ++ drop (length said) output))
       go true f = let size : count ≡ length q = cc in (size, refl)
@@ -84,15 +83,15 @@ module _ (output : List ℕ) (whole : length output ≡ print_limit) where
   -- of a refused one the refusal is printed, and the output is as it was
   pub outcome-refused :
       (made : Checked (List ℕ)) (refusal : Refusal) →
-      answer made (length output) ≡ Refused refusal →
+      answer made (length output) ≡ Err refusal →
       (output_after made output ≡ output) × (outcome made ≡ refused_line refusal)
   unfolding answer output_after outcome
-  outcome-refused (fault r) refusal e = let same : r ≡ refusal = cc in (refl, ap refused_line same)
-  outcome-refused (good q) refusal e = rw whole (go (leb (length q) print_limit) (rw whole at e))
+  outcome-refused (Err r) refusal e = let same : r ≡ refusal = cc in (refl, ap refused_line same)
+  outcome-refused (Ok q) refusal e = rw whole (go (leb (length q) print_limit) (rw whole at e))
     where
       go :
           (fits : Bool) →
-          cond fits (Accepted (length q)) (Refused (NoRoom (length q))) ≡ Refused refusal →
+          cond fits (Ok (length q)) (Err (NoRoom (length q))) ≡ Err refusal →
           (cond fits (q ++ drop (length q) output) output ≡ output) × (cond fits q (refused_line (NoRoom (length q))) ≡ refused_line refusal)
       go true f = let z : ◌≡◌ {A = ℕ} 0 1 = cc in absurd (omega arith)
       go false f = let same : NoRoom (length q) ≡ refusal = cc in (refl, ap refused_line same)
@@ -109,8 +108,8 @@ module _ (output : List ℕ) (whole : length output ≡ print_limit) where
           (a : Answer) →
           answer made (length output) ≡ a →
           (told_length a ≡ length (outcome made)) × (told a (output_after made output) ≡ outcome made ++ drop (length (outcome made)) output)
-      go (Accepted count) e = outcome-accepted made count e
-      go (Refused refusal) e =
+      go (Ok count) e = outcome-accepted made count e
+      go (Err refusal) e =
           let (left, line) = outcome-refused made refusal e in
           rw (line, left) (refl, sets-eq (refused_line refusal) output 0 (omega (arith, whole, refused-short refusal)) ∙ rw zero-add)
 

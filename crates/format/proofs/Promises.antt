@@ -1,5 +1,6 @@
 -- The promises of specs/Promises.antt, each proved under its name.
 -- Assumes nothing.
+use Rattle.std.specs.Prelude.{Err, Ok, is_ok}
 use Prim.Native.Nat.{ℕ, ◌*◌, ◌/◌, ◌^◌, ◌≤◌, ◌<◌}
 use mathlib.Core.Bool.{Bool, true, false, cond}
 use mathlib.Core.List.{List, [], ◌∷◌, ◌++◌}
@@ -8,12 +9,11 @@ use native.Mathlib.Omega.{arith}
 use borrow.Author.Tests.{leb-true}
 use lib.Dec.{leb}
 use lib.ListN.{length, get_or, drop}
-use Rattle.layout.specs.Checked.{Checked, fault, good, is_good}
+use Rattle.layout.specs.Checked.{Checked}
 use Rattle.table.specs.Rows.{width, no_row, rows_of, table_of}
 use Rattle.table.proofs.Rows.{length-rows_of, every-number}
 use Rattle.table.specs.declared.row.Row.{Row}
 use Rattle.layout.specs.declared.refusal.Refusal.{Refusal}
-use Rattle.layout.specs.declared.refusal.Answer.TheVariants.{Accepted, Refused}
 use Rattle.format.specs.Output.{answer, output_after}
 use Rattle.format.specs.Parse.{parse}
 use Rattle.format.specs.Promises.{PayloadSize, RefusedLeavesTable, RefusedLeavesOutput, AcceptedStoresRows, AcceptedStoresBytes, MostRows, AcceptedWhateverTable, RefusedWhateverTable, Placed, Fits32, RowsInside, WordsFit}
@@ -34,7 +34,7 @@ payload-size ss = (encode-least ss, encode-multiple ss)
 -- where the room decided, only a refusal keeps what was lent
 kept :
     {A : Type 0} (fits : Bool) (count : ℕ) (lacking refusal : Refusal) (new lent : A) →
-    cond fits (Accepted count) (Refused lacking) ≡ Refused refusal →
+    cond fits (Ok count) (Err lacking) ≡ Err refusal →
     cond fits new lent ≡ lent
 kept true count lacking refusal new lent e = let z : ◌≡◌ {A = ℕ} 0 1 = cc in absurd (omega arith)
 kept false count lacking refusal new lent e = refl
@@ -43,19 +43,19 @@ pub refused-leaves-table : RefusedLeavesTable
 unfolding read_answer read_table rows_answer table_after
 refused-leaves-table p table refusal e = go (parse p) e
   where
-    go : (c : Checked (List Row)) → rows_answer c (length table) ≡ Refused refusal → table_after c table ≡ table
-    go (fault r) f = refl
-    go (good rows) f = kept (holds (length table) rows) _ _ refusal _ table f
+    go : (c : Checked (List Row)) → rows_answer c (length table) ≡ Err refusal → table_after c table ≡ table
+    go (Err r) f = refl
+    go (Ok rows) f = kept (holds (length table) rows) _ _ refusal _ table f
 
 pub refused-leaves-output : RefusedLeavesOutput
 unfolding answer output_after
-refused-leaves-output (fault r) output refusal e = refl
-refused-leaves-output (good bytes) output refusal e = kept (leb (length bytes) (length output)) _ _ refusal _ output e
+refused-leaves-output (Err r) output refusal e = refl
+refused-leaves-output (Ok bytes) output refusal e = kept (leb (length bytes) (length output)) _ _ refusal _ output e
 
 -- where the room decided, only enough of it accepts
 stored :
     (fits : Bool) (size count : ℕ) (lacking : Refusal) →
-    cond fits (Accepted size) (Refused lacking) ≡ Accepted count →
+    cond fits (Ok size) (Err lacking) ≡ Ok count →
     (fits ≡ true) × (size ≡ count)
 stored true size count lacking e = (refl, cc)
 stored false size count lacking e = let z : ◌≡◌ {A = ℕ} 0 1 = cc in absurd (omega arith)
@@ -67,25 +67,25 @@ accepted-stores-rows p table count e = go (parse p) refl e
     go :
         (c : Checked (List Row)) →
         parse p ≡ c →
-        rows_answer c (length table) ≡ Accepted count →
+        rows_answer c (length table) ≡ Ok count →
         (rows : List Row)
-        × (parse p ≡ good rows)
+        × (parse p ≡ Ok rows)
         × (length rows ≡ count)
         × (count * width ≤ length table)
         × (read_table p table ≡ table_of rows ++ drop (count * width) table)
-    go (fault r) f g = let z : ◌≡◌ {A = ℕ} 0 1 = cc in absurd (omega arith)
-    go (good rows) f g =
+    go (Err r) f g = let z : ◌≡◌ {A = ℕ} 0 1 = cc in absurd (omega arith)
+    go (Ok rows) f g =
         let (fits, size) = stored (holds (length table) rows) (length rows) count _ g in
         let room = leb-true (length rows) (length table / width) fits in
         (rows, f, size, omega arith, rw (← size) (held p table f room).1)
 
 pub accepted-stores-bytes : AcceptedStoresBytes
 unfolding answer
-accepted-stores-bytes (fault r) output count e = let z : ◌≡◌ {A = ℕ} 0 1 = cc in absurd (omega arith)
-accepted-stores-bytes (good bytes) output count e =
+accepted-stores-bytes (Err r) output count e = let z : ◌≡◌ {A = ℕ} 0 1 = cc in absurd (omega arith)
+accepted-stores-bytes (Ok bytes) output count e =
     let (fits, size) = stored (leb (length bytes) (length output)) (length bytes) count _ e in
     let enough = leb-true (length bytes) (length output) fits in
-    (bytes, refl, size, omega arith, rw (← size) (room (good bytes) output refl enough).1)
+    (bytes, refl, size, omega arith, rw (← size) (room (Ok bytes) output refl enough).1)
 
 pub most-rows : MostRows
 most-rows p rows e = omega (arith, parse-count p rows e)
@@ -96,9 +96,9 @@ accepted-whatever-table p e =
     let found = is-good (parse p) e in
     (found.0, found.1, λ numbers. ap (λ (c : Checked (List Row)). rows_answer c numbers) found.1)
 
-refusal-of : {A : Type 0} (c : Checked A) → is_good c ≡ false → (r : Refusal) × (c ≡ fault r)
-refusal-of (fault r) e = (r, refl)
-refusal-of (good a) e = let z : ◌≡◌ {A = ℕ} 0 1 = cc in absurd (omega arith)
+refusal-of : {A : Type 0} (c : Checked A) → is_ok c ≡ false → (r : Refusal) × (c ≡ Err r)
+refusal-of (Err r) e = (r, refl)
+refusal-of (Ok a) e = let z : ◌≡◌ {A = ℕ} 0 1 = cc in absurd (omega arith)
 
 pub refused-whatever-table : RefusedWhateverTable
 unfolding accepted read_answer rows_answer

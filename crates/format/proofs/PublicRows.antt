@@ -1,6 +1,7 @@
 -- The public rows of sections that stand in a payload obey the rules of rows and say the public sections, so that the public copy of an encoding
 -- is the encoding of these.
 -- Assumes nothing.
+use Rattle.std.specs.Prelude.{Ok}
 use Prim.Native.Nat.{ℕ, ◌+◌, ◌≤◌}
 use mathlib.Core.Bool.{true}
 use mathlib.Core.List.{List, [], ◌∷◌, ◌++◌, map, flat_map, map-map, map-append}
@@ -11,7 +12,7 @@ use lib.ListN.{length, get_or, replicate, length-append}
 use Rattle.wire.specs.Length.{wire_size}
 use Rattle.wire.specs.Padding.{all_zero}
 use Rattle.wire.proofs.PaddingLaws.{le-aligned}
-use Rattle.layout.specs.Checked.{Checked, good}
+use Rattle.layout.specs.Checked.{Checked}
 use Rattle.layout.specs.Spans.{side_of}
 use Rattle.layout.proofs.Checked.{check-passes, then-passes}
 use Rattle.layout.proofs.Lists.{flat_map-append}
@@ -139,8 +140,8 @@ module _ (p : List ℕ) where
       WellFormed s →
       at + length (encode_section s) ≤ length p →
       Stands p at (encode_section s) →
-      ((previous : Tag) → check_rows p [] previous after ≡ good tt) →
-      (previous : Tag) → check_rows p [] previous (public_rows (rows_of_section at s) ++ after) ≡ good tt
+      ((previous : Tag) → check_rows p [] previous after ≡ Ok tt) →
+      (previous : Tag) → check_rows p [] previous (public_rows (rows_of_section at s) ++ after) ≡ Ok tt
   unfolding public_rows public_row flat_map rows_of_section stored_bytes obeys tag_rule spans_by all_inside check_texts side_of all_zero
   public-passes (plain header texts) at after ok room s passes previous =
       let within = stored-within p [] (plain header texts) at room in
@@ -164,7 +165,7 @@ module _ (p : List ℕ) where
       All WellFormed ss →
       at + length (flat_map encode_section ss) ≤ length p →
       Stands p at (flat_map encode_section ss) →
-      (previous : Tag) → check_rows p [] previous (public_rows (rows_from at ss)) ≡ good tt
+      (previous : Tag) → check_rows p [] previous (public_rows (rows_from at ss)) ≡ Ok tt
   unfolding flat_map
   public-rows-pass [] at ok room s previous = unfold public_rows rows_from check_rows in refl
   public-rows-pass (t ∷ ss) at (ok, oks) room s previous =
@@ -177,13 +178,13 @@ module _ (p : List ℕ) where
 -- ---- what they write
 
 module _ (ss : List Section) (ok : All WellFormed ss) (fit : within_limits (public_sections ss) ≡ true) where
-  pub public-written : written (encode ss) [] (public_rows (rows_from 8 ss)) ≡ good (encode (public_sections ss))
+  pub public-written : written (encode ss) [] (public_rows (rows_from 8 ss)) ≡ Ok (encode (public_sections ss))
   unfolding written resolve
   public-written =
       let obey = public-rows-pass (encode ss) ss 8 ok (omega (arith, length-encode ss)) (stand ss) tag.None in
-      let say = ap {B = Checked (List Section)} (λ (l : List Section). good l) (public-rows-say (encode ss) ss 8 (stand ss)) in
+      let say = ap {B = Checked (List Section)} (λ (l : List Section). Ok l) (public-rows-say (encode ss) ss 8 (stand ss)) in
       then-passes _ _ (then-passes _ _ obey say) (check-passes _ _ _ fit refl)
 
-  pub public-copy-is : within_limits ss ≡ true → public_copy (encode ss) ≡ good (encode (public_sections ss))
+  pub public-copy-is : within_limits ss ≡ true → public_copy (encode ss) ≡ Ok (encode (public_sections ss))
   unfolding public_copy
   public-copy-is whole = then-passes _ _ (read-payload ss ok whole) public-written

@@ -41,8 +41,8 @@ pub record RecordOk (t : Tag) (r : Record) : Type 0 where
   pub texts : All (TextOk (begins_section t)) r.texts
   pub kind : KindOk t r
 
-abbrev pub Ok : Record → Type 0
-Ok r = RecordOk r.tag r
+abbrev pub Good : Record → Type 0
+Good r = RecordOk r.tag r
 
 -- ---- from records to sections
 
@@ -58,7 +58,7 @@ text-ok k r ok e = all-at Text [] r.texts (rw e at ok.texts) empty-text k
 leading-ok :
     {A : Type 0} (P : A → Type 0) (t : Tag) (f : Record → A) →
     ((r : Record) → RecordOk t r → P (f r)) →
-    (rs : List Record) → All Ok rs → All P (leading t f rs)
+    (rs : List Record) → All Good rs → All P (leading t f rs)
 leading-ok P t f each [] oks = unfold leading in tt
 leading-ok P t f each (r ∷ rs) (ok, oks) =
     elim (tag-discrete r.tag t) [
@@ -66,7 +66,7 @@ leading-ok P t f each (r ∷ rs) (ok, oks) =
       | no n ↦ rw (leading-ends t f r rs n) tt
     ]
 
-begun_ok : (t : Tag) (r : Record) (rs : List Record) → RecordOk t r → All Ok rs → All WellFormed (begun t r rs)
+begun_ok : (t : Tag) (r : Record) (rs : List Record) → RecordOk t r → All Good rs → All WellFormed (begun t r rs)
 unfolding begun
 begun_ok tag.PlainContents r rs ok oks = ((number_ok 0 r ok, leading-ok Text tag.Content (text 0) (λ r k. text-ok 0 r k refl) rs oks), tt)
 begun_ok tag.PackedContents r rs ok oks = ((number_ok 0 r ok, bytes_ok 0 r ok refl, number_ok 1 r ok, number_ok 2 r ok), tt)
@@ -80,7 +80,7 @@ begun_ok tag.Name r rs ok oks = tt
 begun_ok tag.Pair r rs ok oks = tt
 begun_ok tag.None r rs ok oks = tt
 
-pub sections-ok : (rs : List Record) → All Ok rs → All WellFormed (sections rs)
+pub sections-ok : (rs : List Record) → All Good rs → All WellFormed (sections rs)
 unfolding sections
 sections-ok [] oks = tt
 sections-ok (r ∷ rs) (ok, oks) = all_append WellFormed (begun r.tag r rs) (sections rs) (begun_ok r.tag r rs ok oks) (sections-ok rs oks)
@@ -88,7 +88,7 @@ sections-ok (r ∷ rs) (ok, oks) = all_append WellFormed (begun r.tag r rs) (sec
 -- ---- from sections to records
 
 abbrev pub Whole : Record → Type 0
-Whole r = Shaped r × Ok r
+Whole r = Shaped r × Good r
 
 entries-ok :
     {A : Type 0} (P : A → Type 0) (own : A → Record) →
@@ -100,7 +100,7 @@ entries-ok P own each (x ∷ xs) (ok, oks) = (each x ok, entries-ok P own each x
 abbrev shape : {r : Record} → length r.numbers ≡ number_count r.tag → length r.texts ≡ text_count r.tag → Shaped r
 shape n t = record { numbers = n; texts = t }
 
-abbrev fine : {r : Record} → All (λ (n : ℕ). n < 2 ^ 32) r.numbers → All (TextOk (begins_section r.tag)) r.texts → KindOk r.tag r → Ok r
+abbrev fine : {r : Record} → All (λ (n : ℕ). n < 2 ^ 32) r.numbers → All (TextOk (begins_section r.tag)) r.texts → KindOk r.tag r → Good r
 fine n t k = record { numbers = n; texts = t; kind = k }
 
 record-ok : (s : Section) → WellFormed s → All Whole (records_of s)

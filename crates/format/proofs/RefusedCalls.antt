@@ -1,14 +1,14 @@
 -- The statements of specs/RefusedCalls.antt, each proved under its name.
 -- Assumes nothing.
+use Rattle.std.specs.Prelude.{Err, Ok}
 use Prim.Native.Nat.{ℕ}
 use mathlib.Core.List.{List, [], ◌∷◌}
 use mathlib.Core.Logic.{◌⊎◌, inl, inr}
 use mathlib.Core.Path.{◌≡◌, refl, sym, ap, ◌∙◌}
-use Rattle.layout.specs.Checked.{Checked, fault, good}
+use Rattle.layout.specs.Checked.{Checked}
 use Rattle.layout.specs.Refusals.{refusal_number, refusal_second}
 use Rattle.layout.specs.Spans.{Span}
 use Rattle.layout.specs.TextCheck.{check_text}
-use Rattle.layout.specs.declared.refusal.Answer.TheVariants.{Refused}
 use Rattle.layout.specs.declared.refusal.Refusal.{Refusal}
 use Rattle.layout.proofs.Checked.{after-fault}
 use Rattle.layout.proofs.Faults.{Only, only-value as value, only-test as test, only_step as step}
@@ -37,25 +37,25 @@ use Rattle.format.proofs.Secrecy.{copy-of-facts}
 -- a call that is refused by a fault of what its job goes by, and else makes bytes
 pub refused-call :
     {A : Type 0} (c : Checked A) (made : Checked (List ℕ)) (Number : ℕ → Type 0) →
-    ((r : Refusal) → c ≡ fault r → Number (refusal_number r) × (refusal_second r ≡ 0)) →
-    ((r : Refusal) → c ≡ fault r → made ≡ fault r) →
-    ((a : A) → c ≡ good a → (bytes : List ℕ) × (made ≡ good bytes)) →
+    ((r : Refusal) → c ≡ Err r → Number (refusal_number r) × (refusal_second r ≡ 0)) →
+    ((r : Refusal) → c ≡ Err r → made ≡ Err r) →
+    ((a : A) → c ≡ Ok a → (bytes : List ℕ) × (made ≡ Ok bytes)) →
     (room : ℕ) (refusal : Refusal) →
-    answer made room ≡ Refused refusal →
+    answer made room ≡ Err refusal →
     Faulty c Number refusal ⊎ LacksRoom made room refusal
 unfolding answer
 refused-call {A} c made Number numbers faults goods room refusal e = go c refl
   where
-    told : {m : Checked (List ℕ)} → made ≡ m → answer m room ≡ Refused refusal
+    told : {m : Checked (List ℕ)} → made ≡ m → answer m room ≡ Err refusal
     told is = sym (ap (λ (m : Checked (List ℕ)). answer m room) is) ∙ e
 
     go : (d : Checked A) → c ≡ d → Faulty c Number refusal ⊎ LacksRoom made room refusal
-    go (fault r) f =
+    go (Err r) f =
         let same = told (faults r f) in
-        let found : c ≡ fault refusal = cc in
+        let found : c ≡ Err refusal = cc in
         let (number, second) = numbers refusal found in
         inl (found, number, second)
-    go (good a) f =
+    go (Ok a) f =
         let (bytes, is) = goods a f in
         let (lacks, short) = for-room bytes room refusal (told is) in
         inr (bytes, is, lacks, short)

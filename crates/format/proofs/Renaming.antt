@@ -1,6 +1,7 @@
 -- Renaming one file, as specs/RoundTrips.antt states it: a row that is set changes what the rows say at its index alone, and a name's row may be
 -- set to any text.
 -- Assumes nothing.
+use Rattle.std.specs.Prelude.{Ok}
 use Prim.Native.Nat.{ℕ, zero, suc, ◌+◌}
 use mathlib.Core.Bool.{true, and-eq-true_iff}
 use mathlib.Core.List.{List, [], ◌∷◌, map}
@@ -9,7 +10,7 @@ use native.Mathlib.Omega.{arith}
 use borrow.Author.Tests.{le-leb}
 use lib.ListN.{length, get_or, set}
 use Rattle.wire.specs.Padding.{all_zero}
-use Rattle.layout.specs.Checked.{Checked, good}
+use Rattle.layout.specs.Checked.{Checked}
 use Rattle.layout.specs.Spans.{Span, side_of, span_bytes, inside}
 use Rattle.table.specs.Rows.{no_row, rows_of, store_row, name_row, spans_by}
 use Rattle.table.proofs.Rows.{length-table_of, rows_of-table_of, length-store_row, rows_of-store_row}
@@ -48,13 +49,13 @@ every_set P (r ∷ rows) zero new h k = (k, h.1)
 every_set P (r ∷ rows) (suc i) new h k = (h.0, every_set P rows i new h.1 k)
 
 -- it may have any row's place that has its tag, where it obeys the rules wherever that one does
-module _ (p edit : List ℕ) (new : Row) (texts : check_texts p edit (texts_of new) ≡ good tt) where
+module _ (p edit : List ℕ) (new : Row) (texts : check_texts p edit (texts_of new) ≡ Ok tt) where
   set-passes :
       (rows : List Row) (i : ℕ) (previous : Tag) →
       tag_of (get_or rows i no_row).tag ≡ tag_of new.tag →
       ((previous : Tag) → obeys p edit previous (get_or rows i no_row) ≡ true → obeys p edit previous new ≡ true) →
-      check_rows p edit previous rows ≡ good tt →
-      check_rows p edit previous (set rows i new) ≡ good tt
+      check_rows p edit previous rows ≡ Ok tt →
+      check_rows p edit previous (set rows i new) ≡ Ok tt
   unfolding check_rows check_row
   set-passes [] i previous tag same e = e
   set-passes (r ∷ rows) zero previous tag same e =
@@ -96,7 +97,7 @@ rename-is-written p edit rows i text bytes e tag within ok =
     let all = payload-stands p bytes rows e in
     let before = rows-obey all.sections all.ok p rows all.is all.rows edit in
     let passes = then-passes _ _ (ok-text (side_of text.side p edit) text.start text.count (span_bytes p edit text) refl ok) refl in
-    let after : check_rows p edit None (renamed rows i text) ≡ good tt =
+    let after : check_rows p edit None (renamed rows i text) ≡ Ok tt =
     set-passes p edit (name_row text size) passes rows i None tag (name-obeys p edit (get_or rows i no_row) text size tag within) before in
     after-good _ _ (then-passes _ _ after refl)
 

@@ -1,6 +1,7 @@
 -- The round trips of specs/RoundTrips.antt, each proved under its name. All rest on two facts: an accepted payload is the encoding of well-formed
 -- sections, with their rows (PayloadStands), and every such encoding is accepted, with these rows (PayloadRead).
 -- Assumes nothing.
+use Rattle.std.specs.Prelude.{Ok}
 use Prim.Native.Nat.{ℕ, ◌+◌, ◌*◌, ◌/◌, ◌%◌, ◌≤◌}
 use mathlib.Core.Bool.{Bool, true, false, cond}
 use mathlib.Core.List.{List, [], ◌∷◌}
@@ -9,13 +10,12 @@ use native.Mathlib.Omega.{arith}
 use borrow.Author.Tests.{eq-eqb}
 use lib.ListN.{length, take, drop, length-map}
 use lib.Seq.{take_at}
-use Rattle.layout.specs.Checked.{Checked, good, check}
+use Rattle.layout.specs.Checked.{Checked, check}
 use Rattle.table.specs.Rows.{width, table_of, rows_of, spans_of}
 use Rattle.table.specs.Tags.{tag_of, begins_section}
 use Rattle.table.specs.declared.row.Row.{Row}
 use Rattle.table.specs.declared.tag.Tag.{Tag}
 use Rattle.table.specs.declared.tag.Tag.TheVariants.{PlainContents, PackedContents, Names, Arguments, Unknown, Content, Name, Pair, None}
-use Rattle.layout.specs.declared.refusal.Answer.TheVariants.{Accepted}
 use Rattle.layout.specs.Spans.{Span}
 use Rattle.layout.proofs.Sides.{side_of-payload}
 use Rattle.layout.proofs.Checked.{check-good, then-good, then-passes, is-good}
@@ -55,7 +55,7 @@ accepted-is-encoded p bytes e =
 pub encoded-is-accepted : EncodedIsAccepted
 unfolding sections_read
 encoded-is-accepted ss ok fit =
-    then-passes _ _ (read-payload ss ok fit) (ap {B = Checked (List Section)} (λ (l : List Section). good l) (encoded-sections ss []))
+    then-passes _ _ (read-payload ss ok fit) (ap {B = Checked (List Section)} (λ (l : List Section). Ok l) (encoded-sections ss []))
 
 pub sections-are-unique : SectionsAreUnique
 sections-are-unique ss ts ok ok' fit fit' e =
@@ -68,7 +68,7 @@ pub rows-resolve : RowsResolve
 rows-resolve p edit rows bytes e =
     let all = payload-stands p bytes rows e in
     let sections = sections-are all.sections all.ok p rows all.is all.rows edit in
-    resolves all.sections all.ok p rows all.is all.rows edit ∙ ap {B = Checked (List Section)} (λ (l : List Section). good l) (sym sections)
+    resolves all.sections all.ok p rows all.is all.rows edit ∙ ap {B = Checked (List Section)} (λ (l : List Section). Ok l) (sym sections)
 
 pub lists-sections : ListsSections
 unfolding listed
@@ -79,7 +79,7 @@ module _ (p : List ℕ) where
   own-texts :
       (spans : List Span) →
       All (λ (s : Span). (s.side ≡ 0) × (s.start + s.count ≤ length p)) spans →
-      check_texts p [] spans ≡ good tt →
+      check_texts p [] spans ≡ Ok tt →
       All (OwnText p) spans
   unfolding check_texts
   own-texts [] placed e = tt
@@ -87,14 +87,14 @@ module _ (p : List ℕ) where
       let (done, first, rest) = then-good _ _ _ e in
       ((side, within, rw (side_of-payload p [] side) at (text-ok _ s.start s.count first)), own-texts spans placed rest)
 
-  own-rows : (previous : Tag) (rows : List Row) → All (Placed p) rows → check_rows p [] previous rows ≡ good tt → All (λ (r : Row). All (OwnText p) (texts_of r)) rows
+  own-rows : (previous : Tag) (rows : List Row) → All (Placed p) rows → check_rows p [] previous rows ≡ Ok tt → All (λ (r : Row). All (OwnText p) (texts_of r)) rows
   unfolding check_rows check_row
   own-rows previous [] placed e = tt
   own-rows previous (r ∷ rows) (here, placed) e =
       let (done, first, rest) = then-good _ _ _ e in
       (go (begins_section (tag_of r.tag)) (check-good _ _ _ _ first).1, own-rows (tag_of r.tag) rows placed rest)
     where
-      go : (section : Bool) → check_texts p [] (cond section [] (spans_of r)) ≡ good tt → All (OwnText p) (cond section [] (spans_of r))
+      go : (section : Bool) → check_texts p [] (cond section [] (spans_of r)) ≡ Ok tt → All (OwnText p) (cond section [] (spans_of r))
       go true f = tt
       go false f = own-texts (spans_of r) here f
 
@@ -116,7 +116,7 @@ table-written payload edit table rows whole e = rw (eq-eqb (length table % width
 -- the rows that reading stored are the start of the table
 pub stored-rows :
     (p table : List ℕ) (rows : List Row) →
-    parse p ≡ good rows →
+    parse p ≡ Ok rows →
     length rows ≤ length table / width →
     rows_kept p table rows ≡ table_of rows
 stored-rows p table rows e h =
@@ -128,7 +128,7 @@ unfolding write_answer write_output
 calls-write-back p edit table output rows bytes e h =
     let kept : List ℕ = rows_kept p table rows in
     let start = stored-rows p table rows e h in
-    let is : written_table p edit kept ≡ good p =
+    let is : written_table p edit kept ≡ Ok p =
     table-written p edit kept rows (rw start (omega (arith, length-table_of rows))) (ap rows_of start ∙ rows_of-table_of rows) ∙ writes-back p edit rows bytes e in
     (ap (λ (c : Checked (List ℕ)). answer c (length output)) is, ap (λ (c : Checked (List ℕ)). output_after c output) is)
 
@@ -136,11 +136,11 @@ calls-write-back p edit table output rows bytes e h =
 
 -- the sections of rows that were written
 pub record Written (payload edit q : List ℕ) (rows : List Row) : Type 0 where
-  pub checked : check_rows payload edit None rows ≡ good tt
+  pub checked : check_rows payload edit None rows ≡ Ok tt
   pub fit : within_limits (sections_of payload edit rows) ≡ true
   pub is : encode (sections_of payload edit rows) ≡ q
 
-pub written-good : (payload edit q : List ℕ) (rows : List Row) → written payload edit rows ≡ good q → Written payload edit q rows
+pub written-good : (payload edit q : List ℕ) (rows : List Row) → written payload edit rows ≡ Ok q → Written payload edit q rows
 unfolding written resolve
 written-good payload edit q rows e =
     let (ss, resolved, after) = then-good _ _ _ e in
@@ -187,4 +187,4 @@ calls-read-back payload edit table output lent count bytes bytes' words e room =
     let (told, left) = held q lent found (omega arith) in
     let kept : take (length rows) (rows_of (read_table q lent)) ≡ again =
     ap (λ (l : List ℕ). take (length rows) (rows_of l)) left ∙ rw rows_of-table_of-append (take_at again (rows_of (drop (length again * width) lent)) (length rows) many) in
-    rw (out, kept) (whole, told ∙ ap Accepted many, same)
+    rw (out, kept) (whole, told ∙ ap Ok many, same)

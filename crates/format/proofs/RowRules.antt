@@ -1,5 +1,6 @@
 -- What the rules say of rows that obey them: of each row by itself, and of what it follows.
 -- Assumes nothing.
+use Rattle.std.specs.Prelude.{Ok}
 use Prim.Native.Nat.{ℕ, ◌%◌, ◌≤◌}
 use mathlib.Core.Bool.{true, false, cond, and-eq-true_iff}
 use mathlib.Core.List.{List, [], ◌∷◌}
@@ -8,7 +9,6 @@ use native.Mathlib.Omega.{arith}
 use borrow.Author.Tests.{leb-true, eqb-true}
 use lib.ListN.{length, length-drop}
 use lib.Seq.{length-take-le}
-use Rattle.layout.specs.Checked.{good}
 use Rattle.layout.specs.Spans.{Span, side_of, span_bytes, inside}
 use Rattle.layout.specs.TextCheck.{check_span}
 use Rattle.layout.proofs.Checked.{check-good, then-good}
@@ -84,7 +84,7 @@ module _ (payload edit : List ℕ) where
       let (known, within) = simp and-eq-true_iff at h in
       length-take-le s.count _ (omega (arith, leb-true, length-drop s.start (side_of s.side payload edit)))
 
-  is-text : (s : Span) → inside payload edit s ≡ true → check_span payload edit s ≡ good tt → WholeText s
+  is-text : (s : Span) → inside payload edit s ≡ true → check_span payload edit s ≡ Ok tt → WholeText s
   is-text s h e = record { whole = is_whole s h; text = text-ok (side_of s.side payload edit) s.start s.count e }
 
   inside-first : (s : Span) (spans : List Span) → all_inside payload edit (s ∷ spans) ≡ true → (inside payload edit s ≡ true) × (all_inside payload edit spans ≡ true)
@@ -95,7 +95,7 @@ module _ (payload edit : List ℕ) where
       (previous : Tag) (r : Row) (t : Tag) →
       Ruled previous t r →
       all_inside payload edit (spans_by t r) ≡ true →
-      check_texts payload edit (cond (begins_section t) [] (spans_by t r)) ≡ good tt →
+      check_texts payload edit (cond (begins_section t) [] (spans_by t r)) ≡ Ok tt →
       RowOk t r
   unfolding tag_rule spans_by check_texts
   is_ok previous r PlainContents h within e = tt
@@ -118,8 +118,8 @@ module _ (payload edit : List ℕ) where
 
   pub first-ok :
       (previous : Tag) (r : Row) (rows : List Row) →
-      check_rows payload edit previous (r ∷ rows) ≡ good tt →
-      Ruled previous (tag_of r.tag) r × RowOk (tag_of r.tag) r × (check_rows payload edit (tag_of r.tag) rows ≡ good tt)
+      check_rows payload edit previous (r ∷ rows) ≡ Ok tt →
+      Ruled previous (tag_of r.tag) r × RowOk (tag_of r.tag) r × (check_rows payload edit (tag_of r.tag) rows ≡ Ok tt)
   unfolding check_rows check_row obeys
   first-ok previous r rows e =
       let (done, first, rest) = then-good _ _ _ e in
@@ -127,7 +127,7 @@ module _ (payload edit : List ℕ) where
       let (rule, within) = (and-eq-true_iff _ _).0 obeyed in
       (rule, is_ok previous r (tag_of r.tag) rule within passed, rest)
 
-  pub rows_ok : (previous : Tag) (rows : List Row) → check_rows payload edit previous rows ≡ good tt → Every RowOk rows
+  pub rows_ok : (previous : Tag) (rows : List Row) → check_rows payload edit previous rows ≡ Ok tt → Every RowOk rows
   rows_ok previous [] e = tt
   rows_ok previous (r ∷ rows) e =
       let (rule, here, rest) = first-ok previous r rows e in

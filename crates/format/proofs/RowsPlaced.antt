@@ -1,5 +1,6 @@
 -- Every row of an accepted payload names places inside it, in numbers of 32 bits: section by section, and entry by entry.
 -- Assumes nothing.
+use Rattle.std.specs.Prelude.{Ok}
 use Prim.Native.Nat.{ℕ, zero, suc, ◌+◌, ◌≤◌, ◌<◌, ◌^◌}
 use mathlib.Core.List.{List, [], ◌∷◌}
 use mathlib.Core.Path.{◌≡◌, refl, subst}
@@ -8,7 +9,6 @@ use lib.ListN.{length}
 use Rattle.wire.specs.Number.{u16_at, u32_at}
 use Rattle.wire.proofs.PaddingLaws.{le-aligned}
 use Rattle.wire.specs.Length.{wire_size}
-use Rattle.layout.specs.Checked.{good}
 use Rattle.layout.specs.Kinds.{kind_number, checked_compression}
 use Rattle.layout.proofs.Promises.{kind-has-number}
 use Rattle.layout.specs.declared.compression.SourceCompression.{SourceCompression}
@@ -39,7 +39,7 @@ module _ (p : List ℕ) (bytes : Bytes p) (small : length p ≤ limit) where
     entries-placed :
         (header : ℕ) (row_of : ℕ → ℕ → Row) →
         ((at n : ℕ) → at + header + n ≤ end → Held (row_of at n)) →
-        (count at : ℕ) (rs : List Row) → entries header row_of count p at end ≡ good rs → All Held rs
+        (count at : ℕ) (rs : List Row) → entries header row_of count p at end ≡ Ok rs → All Held rs
     entries-placed header row_of ok zero at rs e = rw (entries_none header p end row_of at rs e).1 tt
     entries-placed header row_of ok (suc count) at rs e =
         let (n, rest, first, others, same) = entries-first header p end row_of count at rs e in
@@ -69,7 +69,7 @@ module _ (p : List ℕ) (bytes : Bytes p) (small : length p ≤ limit) where
       record { tag = omega arith; side = omega arith; a = omega arith; b = omega arith; c = omega arith; d = omega arith; e = omega arith },
     )
 
-    pairs-placed : (count at : ℕ) (rs : List Row) → pairs count p at end ≡ good rs → All Held rs
+    pairs-placed : (count at : ℕ) (rs : List Row) → pairs count p at end ≡ Ok rs → All Held rs
     unfolding pairs
     pairs-placed zero at rs e =
         let found = (check-good _ _ _ _ e).1 in
@@ -85,7 +85,7 @@ module _ (p : List ℕ) (bytes : Bytes p) (small : length p ≤ limit) where
 
   -- the section of a size at a place, by its kind
   module _ (at size : ℕ) (within : at + size ≤ length p) where
-    stored-placed : (c : SourceCompression) → 28 + u32_at p (at + 16) ≤ size → (rs : List Row) → parse_stored c p at ≡ good rs → All Held rs
+    stored-placed : (c : SourceCompression) → 28 + u32_at p (at + 16) ≤ size → (rs : List Row) → parse_stored c p at ≡ Ok rs → All Held rs
     unfolding spans_by parse_stored
     stored-placed None room rs e =
         let h = plain-good p at rs e in
@@ -99,7 +99,7 @@ module _ (p : List ℕ) (bytes : Bytes p) (small : length p ≤ limit) where
         record { tag = omega arith; side = omega arith; a = number-below p bytes 4 (at + 8); b = omega arith; c = omega arith; d = number-below p bytes 4 (at + 24); e = number-below p bytes 4 (at + 20) } in
         rw one ((((refl, omega arith), tt), fit), tt)
 
-    section-placed : (kind : SourceInfoSectionType) → kind_number kind < 2 ^ 16 → 8 ≤ size → (rs : List Row) → parse_section kind p at size ≡ good rs → All Held rs
+    section-placed : (kind : SourceInfoSectionType) → kind_number kind < 2 ^ 16 → 8 ≤ size → (rs : List Row) → parse_section kind p at size ≡ Ok rs → All Held rs
     unfolding spans_by parse_section
     section-placed SourceContents k h rs e =
         let told = contents-good p at size rs e in
@@ -121,7 +121,7 @@ module _ (p : List ℕ) (bytes : Bytes p) (small : length p ≤ limit) where
         let fit : Fits32 (unknown_row_at kind at size) = record { tag = omega arith; side = omega arith; a = omega arith; b = omega arith; c = omega arith; d = omega arith; e = omega arith } in
         rw one ((((refl, omega arith), tt), fit), tt)
 
-  sections-placed : (count at : ℕ) (rs : List Row) → parse_sections count p at ≡ good rs → All Held rs
+  sections-placed : (count at : ℕ) (rs : List Row) → parse_sections count p at ≡ Ok rs → All Held rs
   sections-placed zero at rs e = rw (sections-end p at rs e).1 tt
   sections-placed (suc count) at rs e =
       let s = sections-good p at count rs e in
@@ -131,7 +131,7 @@ module _ (p : List ℕ) (bytes : Bytes p) (small : length p ≤ limit) where
       (section-placed at (u32_at p at) s.within (kind_at p at) number s.header s.first s.first_good)
       (sections-placed count (at + u32_at p at) s.rest s.rest-good))
 
-pub rows-placed : (p : List ℕ) (rs : List Row) → Bytes p → parse p ≡ good rs → All (λ (r : Row). Placed p r × Fits32 r) rs
+pub rows-placed : (p : List ℕ) (rs : List Row) → Bytes p → parse p ≡ Ok rs → All (λ (r : Row). Placed p r × Fits32 r) rs
 rows-placed p rs bytes e =
     let told = parse-good p rs e in
     sections-placed p bytes told.0 (u16_at p 6) 8 rs told.1

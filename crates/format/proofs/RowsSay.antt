@@ -1,11 +1,11 @@
 -- What rows that obey the rules say: row by row it is what their sections say, and those sections are well formed.
 -- Assumes nothing.
+use Rattle.std.specs.Prelude.{Ok}
 use Prim.Native.Nat.{ℕ, zero, suc, ◌^◌, ◌<◌}
 use mathlib.Core.Bool.{true, false}
 use mathlib.Core.List.{List, [], ◌∷◌, ◌++◌, map, flat_map, append-nil, append_assoc}
 use mathlib.Core.Path.{◌≡◌, refl, ap, subst}
 use lib.ListN.{length}
-use Rattle.layout.specs.Checked.{good}
 use Rattle.layout.specs.Spans.{Span, side_of, span_bytes}
 use Rattle.layout.proofs.Lists.{flat_map-append}
 use Rattle.table.specs.Rows.{bytes_span, spans_by}
@@ -106,7 +106,7 @@ module _ (payload edit : List ℕ) where
   -- the entries that follow a row, and then the sections, say what the rows do
   rest-says :
       (previous : Tag) (rows : List Row) →
-      check_rows payload edit previous rows ≡ good tt →
+      check_rows payload edit previous rows ≡ Ok tt →
       entries_say previous rows ++ flat_map said_of (sections_of payload edit rows) ≡ map (said payload edit) rows
   unfolding sections_of
   rest-says previous [] e = unfold leading flat_map in refl
@@ -117,7 +117,7 @@ module _ (payload edit : List ℕ) where
 
   pub said-by-sections :
       (rows : List Row) →
-      check_rows payload edit tag.None rows ≡ good tt →
+      check_rows payload edit tag.None rows ≡ Ok tt →
       flat_map said_of (sections_of payload edit rows) ≡ map (said payload edit) rows
   said-by-sections rows e = rw (none-say rows (rows_ok payload edit tag.None rows e)) at (rest-says tag.None rows e)
 
@@ -170,7 +170,7 @@ module _ (payload edit : List ℕ) where
       Bytes edit →
       (rows : List Row) →
       Every Numbers rows →
-      check_rows payload edit tag.None rows ≡ good tt →
+      check_rows payload edit tag.None rows ≡ Ok tt →
       All WellFormed (sections_of payload edit rows)
   sections-well-formed p e rows fit h =
       all-well-formed p e rows (every-both (RowOk payload edit) Numbers rows (rows_ok payload edit tag.None rows h) fit)

@@ -1,5 +1,6 @@
 -- The rows of sections that stand in a payload say just these sections, and obey the rules of rows, whatever the edit text.
 -- Assumes nothing.
+use Rattle.std.specs.Prelude.{Ok}
 use Prim.Native.Nat.{ℕ, ◌+◌, ◌%◌, ◌≤◌}
 use mathlib.Core.Bool.{true, false}
 use mathlib.Core.List.{List, [], ◌∷◌, ◌++◌, map, flat_map, map-id}
@@ -11,7 +12,6 @@ use lib.ListN.{length, length-append}
 use Rattle.wire.specs.Length.{wire_size}
 use Rattle.wire.specs.Padding.{all_zero}
 use Rattle.wire.proofs.PaddingLaws.{le-aligned}
-use Rattle.layout.specs.Checked.{good}
 use Rattle.layout.specs.Spans.{side_of}
 use Rattle.layout.specs.TextCheck.{check_text}
 use Rattle.table.specs.Rows.{spans_by}
@@ -144,22 +144,22 @@ module _ (p edit : List ℕ) where
 
   -- a row obeys the rules after a row of the previous tag, and its texts pass
   abbrev Passes : Tag → Row → Type 0
-  Passes previous r = (obeys p edit previous r ≡ true) × (check_texts p edit (texts_of r) ≡ good tt)
+  Passes previous r = (obeys p edit previous r ≡ true) × (check_texts p edit (texts_of r) ≡ Ok tt)
 
   pub passes-first :
       (previous : Tag) (r : Row) (rows : List Row) →
       Passes previous r →
-      check_rows p edit (tag_of r.tag) rows ≡ good tt →
-      check_rows p edit previous (r ∷ rows) ≡ good tt
+      check_rows p edit (tag_of r.tag) rows ≡ Ok tt →
+      check_rows p edit previous (r ∷ rows) ≡ Ok tt
   unfolding check_rows check_row
   passes-first previous r rows (rule, texts) rest = then-passes _ _ (check-passes _ _ _ rule texts) rest
 
   -- the row of an item that stands is of a tag, and passes after a row that entries of this tag may follow
   abbrev pub PassesAfter : {A : Type 0} → Tag → (A → List ℕ) → (ℕ → A → Row) → (A → Type 0) → Type 0
-  PassesAfter {A} own bytes row_at Ok =
+  PassesAfter {A} own bytes row_at Good =
       (previous : Tag) (at : ℕ) (a : A) →
       entry_tag previous ≡ own →
-      Ok a →
+      Good a →
       at + length (bytes a) ≤ length p →
       Stands p at (bytes a) →
       Passes previous (row_at at a) × (tag_of (row_at at a).tag ≡ own)
@@ -169,7 +169,7 @@ module _ (p edit : List ℕ) where
     text-inside : at ≤ length p → leb (at + length text) (length p) ≡ true
     text-inside h = le-leb (at + length text) (length p) (stands-within p at text h stand)
 
-    text-passes : Text text → check_text p at (length text) ≡ good tt
+    text-passes : Text text → check_text p at (length text) ≡ Ok tt
     text-passes ok = ok-text p at (length text) text (stands-part p at text stand) ok
 
   content-passes : PassesAfter tag.Content content_entry content_placed Text
@@ -197,16 +197,16 @@ module _ (p edit : List ℕ) where
       then-passes _ _ (text-passes at x.name name ok.name) (then-passes _ _ (text-passes next x.value value ok.value) refl) in
       ((rw (same_tag_lem (entry_tag previous) tag.Pair after, name-within, value-within), texts), refl)
 
-  module _ {A : Type 0} (own : Tag) (fixed : entry_tag own ≡ own) (bytes : A → List ℕ) (row_at : ℕ → A → Row) (Ok : A → Type 0) (item : PassesAfter own bytes row_at Ok) where
+  module _ {A : Type 0} (own : Tag) (fixed : entry_tag own ≡ own) (bytes : A → List ℕ) (row_at : ℕ → A → Row) (Good : A → Type 0) (item : PassesAfter own bytes row_at Good) where
     pub run-passes :
         (after : List Row) →
-        ((previous : Tag) → check_rows p edit previous after ≡ good tt) →
+        ((previous : Tag) → check_rows p edit previous after ≡ Ok tt) →
         (items : List A) (previous : Tag) (at : ℕ) →
         entry_tag previous ≡ own →
-        All Ok items →
+        All Good items →
         at + length (flat_map bytes items) ≤ length p →
         Stands p at (flat_map bytes items) →
-        check_rows p edit previous (rows_of_run bytes row_at at items ++ after) ≡ good tt
+        check_rows p edit previous (rows_of_run bytes row_at at items ++ after) ≡ Ok tt
     unfolding flat_map rows_of_run
     run-passes after passes [] previous at f oks room s = passes previous
     run-passes after passes (a ∷ items) previous at f (ok, oks) room s =
@@ -224,8 +224,8 @@ module _ (p edit : List ℕ) where
       WellFormed s →
       at + length (encode_section s) ≤ length p →
       Stands p at (encode_section s) →
-      ((previous : Tag) → check_rows p edit previous after ≡ good tt) →
-      (previous : Tag) → check_rows p edit previous (rows_of_section at s ++ after) ≡ good tt
+      ((previous : Tag) → check_rows p edit previous after ≡ Ok tt) →
+      (previous : Tag) → check_rows p edit previous (rows_of_section at s ++ after) ≡ Ok tt
   unfolding rows_of_section stored_bytes obeys tag_rule spans_by all_inside check_texts side_of all_zero
   section-passes (plain header texts) at after ok room s passes previous =
       let within = stored-within (plain header texts) at room in
@@ -252,7 +252,7 @@ module _ (p edit : List ℕ) where
       All WellFormed ss →
       at + length (flat_map encode_section ss) ≤ length p →
       Stands p at (flat_map encode_section ss) →
-      (previous : Tag) → check_rows p edit previous (rows_from at ss) ≡ good tt
+      (previous : Tag) → check_rows p edit previous (rows_from at ss) ≡ Ok tt
   unfolding flat_map rows_from
   rows_pass [] at ok room s previous = unfold check_rows in refl
   rows_pass (t ∷ ss) at (ok, oks) room s previous =

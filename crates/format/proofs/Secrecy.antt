@@ -1,6 +1,7 @@
 -- The statements of specs/Secrecy.antt, each proved under its name. All rest on this: an accepted payload is the encoding of sections, its public
 -- copy that of its public sections, and its public facts are theirs.
 -- Assumes nothing.
+use Rattle.std.specs.Prelude.{Ok}
 use Prim.Native.Nat.{ℕ}
 use mathlib.Core.Bool.{Bool, true, false, cond}
 use mathlib.Core.List.{List, [], ◌++◌}
@@ -8,7 +9,7 @@ use mathlib.Core.Path.{◌≡◌, refl, sym, ap, ◌∙◌}
 use native.Mathlib.Omega.{arith}
 use lib.Dec.{leb}
 use lib.ListN.{length, drop}
-use Rattle.layout.specs.Checked.{Checked, good}
+use Rattle.layout.specs.Checked.{Checked}
 use Rattle.format.specs.Encoding.{encode, within_limits}
 use Rattle.format.specs.Output.{answer, output_after}
 use Rattle.format.specs.PublicCopy.{public_copy, copy_answer, copy_output}
@@ -32,7 +33,7 @@ pub record Known (p : List ℕ) : Type 0 where
   pub ok : All WellFormed sections
   pub fit : within_limits sections ≡ true
   pub is : encode sections ≡ p
-  pub copy : public_copy p ≡ good (encode (public_sections sections))
+  pub copy : public_copy p ≡ Ok (encode (public_sections sections))
   pub facts : public_facts p ≡ facts_of sections
 
 pub known : (p : List ℕ) → AcceptedPayload p → Known p
@@ -51,7 +52,7 @@ pub copy-of-facts : CopyOfFacts
 unfolding made public_sections
 copy-of-facts p h =
     let all = known p h in
-    all.copy ∙ ap {B = Checked (List ℕ)} (λ (l : List Fact). good (made l)) (sym all.facts)
+    all.copy ∙ ap {B = Checked (List ℕ)} (λ (l : List Fact). Ok (made l)) (sym all.facts)
 
 pub copy-is-public : CopyIsPublic
 unfolding accepted
@@ -65,7 +66,7 @@ copy-is-public p h =
       all.copy,
       (encoded-bytes ts ok, rw (read-payload ts ok fit)),
       public-facts ts ok fit ∙ public-same ss ∙ sym all.facts,
-      public-copy-is ts ok (public-fits ts fit) fit ∙ ap {B = Checked (List ℕ)} (λ (l : List Section). good (encode l)) (public-again ss),
+      public-copy-is ts ok (public-fits ts fit) fit ∙ ap {B = Checked (List ℕ)} (λ (l : List Section). Ok (encode l)) (public-again ss),
       omega (arith, public-shorter ss, ap length all.is),
     )
 
@@ -80,7 +81,7 @@ written-is-accepted payload edit q rows bytes bytes' fit e =
 -- equal facts make equal copies
 same_copy : (p q : List ℕ) → AcceptedPayload p → AcceptedPayload q → public_facts p ≡ public_facts q → public_copy p ≡ public_copy q
 same_copy p q h k e =
-    copy-of-facts p h ∙ ap {B = Checked (List ℕ)} (λ (l : List Fact). good (made l)) e ∙ sym (copy-of-facts q k)
+    copy-of-facts p h ∙ ap {B = Checked (List ℕ)} (λ (l : List Fact). Ok (made l)) e ∙ sym (copy-of-facts q k)
 
 pub equal-exactly : EqualExactly
 equal-exactly p q h k = (same_copy p q h k, back)
@@ -99,7 +100,7 @@ placed bytes room = cond (leb (length bytes) room) bytes []
 
 pub stores :
     (made : Checked (List ℕ)) (bytes output : List ℕ) →
-    made ≡ good bytes →
+    made ≡ Ok bytes →
     output_after made output ≡ placed bytes (length output) ++ drop (length (placed bytes (length output))) output
 unfolding output_after
 stores made bytes output e = ap (λ (c : Checked (List ℕ)). output_after c output) e ∙ go (leb (length bytes) (length output))

@@ -1,6 +1,7 @@
 -- What a section of each kind, a run of sections and a payload say where they are good: where their parts end, and whose rows theirs are. And a
 -- section is good where all of that holds.
 -- Assumes nothing.
+use Rattle.std.specs.Prelude.{Ok}
 use Prim.Native.Nat.{ℕ, zero, suc, ◌+◌, ◌≤◌}
 use mathlib.Core.List.{List, [], ◌∷◌, ◌++◌}
 use mathlib.Core.Path.{◌≡◌, refl}
@@ -8,7 +9,7 @@ use native.Mathlib.Omega.{arith}
 use borrow.Author.Tests.{leb-true, eqb-true, le-leb, eq-eqb}
 use lib.ListN.{length}
 use Rattle.wire.specs.Number.{u16_at, u32_at}
-use Rattle.layout.specs.Checked.{Checked, good, then}
+use Rattle.layout.specs.Checked.{Checked, then}
 use Rattle.format.specs.Encoding.{limit}
 use Rattle.layout.specs.Kinds.{checked_compression}
 use Rattle.layout.specs.declared.compression.SourceCompression.TheVariants.{None}
@@ -21,10 +22,10 @@ use Rattle.layout.proofs.Checked.{check-good, then-good, check-passes, then-pass
 -- a section's rows: its own, and then those of what it holds
 pub record Headed (head : Row) (held : Checked (List Row)) (rs : List Row) : Type 0 where
   pub rest : List Row
-  pub found : held ≡ good rest
+  pub found : held ≡ Ok rest
   pub all : rs ≡ head ∷ rest
 
-headed : (head : Row) (held : Checked (List Row)) (rs : List Row) → then held (λ rows. good (head ∷ rows)) ≡ good rs → Headed head held rs
+headed : (head : Row) (held : Checked (List Row)) (rs : List Row) → then held (λ rows. Ok (head ∷ rows)) ≡ Ok rs → Headed head held rs
 headed head held rs e =
     let a = then-good _ _ _ e in
     let found = a.2 in
@@ -39,9 +40,9 @@ module _ (p : List ℕ) (at : ℕ) where
 
   module _ (size : ℕ) (rs : List Row) where
     pub contents-good :
-        parse_contents p at size ≡ good rs →
+        parse_contents p at size ≡ Ok rs →
         Framed p at size 28 (u32_at p (at + 16))
-        × (parse_stored (checked_compression (u16_at p (at + 14))) p at ≡ good rs)
+        × (parse_stored (checked_compression (u16_at p (at + 14))) p at ≡ Ok rs)
         × (u16_at p (at + 12) ≡ 0)
         × (u16_at p (at + 14) ≤ 1)
     unfolding parse_contents
@@ -56,8 +57,8 @@ module _ (p : List ℕ) (at : ℕ) where
         Framed p at size 28 (u32_at p (at + 16)) →
         u16_at p (at + 12) ≡ 0 →
         u16_at p (at + 14) ≤ 1 →
-        parse_stored (checked_compression (u16_at p (at + 14))) p at ≡ good rs →
-        parse_contents p at size ≡ good rs
+        parse_stored (checked_compression (u16_at p (at + 14))) p at ≡ Ok rs →
+        parse_contents p at size ≡ Ok rs
     unfolding parse_contents
     contents-found frame flags known found =
         check-passes _ _ _ (le-leb 28 size (omega (arith, frame.within)))
@@ -67,19 +68,19 @@ module _ (p : List ℕ) (at : ℕ) where
   abbrev pub plain_entries : Checked (List Row)
   plain_entries = entries 12 content_row_at (u32_at p (at + 24)) p (at + 28) (at + 28 + u32_at p (at + 16))
 
-  pub plain-equal : (rs : List Row) → parse_stored None p at ≡ good rs → u32_at p (at + 20) ≡ u32_at p (at + 16)
+  pub plain-equal : (rs : List Row) → parse_stored None p at ≡ Ok rs → u32_at p (at + 20) ≡ u32_at p (at + 16)
   unfolding parse_stored
   plain-equal rs e = eqb-true _ _ (check-good _ _ _ _ e).0
 
-  pub plain-good : (rs : List Row) → parse_stored None p at ≡ good rs → Headed (plain_row (u32_at p (at + 8))) plain_entries rs
+  pub plain-good : (rs : List Row) → parse_stored None p at ≡ Ok rs → Headed (plain_row (u32_at p (at + 8))) plain_entries rs
   unfolding parse_stored
   plain-good rs e = headed (plain_row (u32_at p (at + 8))) plain_entries rs (check-good _ _ _ _ e).1
 
   pub plain-found :
       {rest : List Row} →
       u32_at p (at + 20) ≡ u32_at p (at + 16) →
-      plain_entries ≡ good rest →
-      parse_stored None p at ≡ good (plain_row (u32_at p (at + 8)) ∷ rest)
+      plain_entries ≡ Ok rest →
+      parse_stored None p at ≡ Ok (plain_row (u32_at p (at + 8)) ∷ rest)
   unfolding parse_stored
   plain-found equal found = check-passes _ _ _ (eq-eqb (u32_at p (at + 20)) (u32_at p (at + 16)) equal) (then-passes _ _ found refl)
 
@@ -91,7 +92,7 @@ module _ (p : List ℕ) (at : ℕ) where
   module _ (size : ℕ) where
     pub names-good :
         (rs : List Row) →
-        parse_names p at size ≡ good rs →
+        parse_names p at size ≡ Ok rs →
         Framed p at size 18 (u16_at p (at + 16)) × Headed (names_row) name_entries rs × (u32_at p (at + 8) ≡ 0)
     unfolding parse_names
     names-good rs e =
@@ -104,8 +105,8 @@ module _ (p : List ℕ) (at : ℕ) where
         {rest : List Row} →
         Framed p at size 18 (u16_at p (at + 16)) →
         u32_at p (at + 8) ≡ 0 →
-        name_entries ≡ good rest →
-        parse_names p at size ≡ good (names_row ∷ rest)
+        name_entries ≡ Ok rest →
+        parse_names p at size ≡ Ok (names_row ∷ rest)
     unfolding parse_names
     names-found frame flags found =
         check-passes _ _ _ (le-leb 18 size (omega (arith, frame.within)))
@@ -120,7 +121,7 @@ module _ (p : List ℕ) (at : ℕ) where
   module _ (size : ℕ) where
     pub arguments-good :
         (rs : List Row) →
-        parse_arguments p at size ≡ good rs →
+        parse_arguments p at size ≡ Ok rs →
         Framed p at size 20 (u32_at p (at + 12)) × Headed (arguments_row) argument_pairs rs × (u32_at p (at + 8) ≡ 0)
     unfolding parse_arguments
     arguments-good rs e =
@@ -133,8 +134,8 @@ module _ (p : List ℕ) (at : ℕ) where
         {rest : List Row} →
         Framed p at size 20 (u32_at p (at + 12)) →
         u32_at p (at + 8) ≡ 0 →
-        argument_pairs ≡ good rest →
-        parse_arguments p at size ≡ good (arguments_row ∷ rest)
+        argument_pairs ≡ Ok rest →
+        parse_arguments p at size ≡ Ok (arguments_row ∷ rest)
     unfolding parse_arguments
     arguments-found frame flags found =
         check-passes _ _ _ (le-leb 20 size (omega (arith, frame.within)))
@@ -149,12 +150,12 @@ pub record Section (p : List ℕ) (at count : ℕ) (rs : List Row) : Type 0 wher
   pub header : 8 ≤ u32_at p at
   pub within : at + u32_at p at ≤ length p
   pub first : List Row
-  pub first_good : parse_section (kind_at p at) p at (u32_at p at) ≡ good first
+  pub first_good : parse_section (kind_at p at) p at (u32_at p at) ≡ Ok first
   pub rest : List Row
-  pub rest-good : parse_sections count p (at + u32_at p at) ≡ good rest
+  pub rest-good : parse_sections count p (at + u32_at p at) ≡ Ok rest
   pub all : rs ≡ first ++ rest
 
-pub sections-good : (p : List ℕ) (at count : ℕ) (rs : List Row) → parse_sections (suc count) p at ≡ good rs → Section p at count rs
+pub sections-good : (p : List ℕ) (at count : ℕ) (rs : List Row) → parse_sections (suc count) p at ≡ Ok rs → Section p at count rs
 unfolding parse_sections
 sections-good p at count rs e =
     let framed = then-good _ _ _ e in
@@ -174,7 +175,7 @@ sections-good p at count rs e =
     }
 
 -- after the last section nothing is left
-pub sections-end : (p : List ℕ) (at : ℕ) (rs : List Row) → parse_sections zero p at ≡ good rs → (at ≡ length p) × (rs ≡ [])
+pub sections-end : (p : List ℕ) (at : ℕ) (rs : List Row) → parse_sections zero p at ≡ Ok rs → (at ≡ length p) × (rs ≡ [])
 unfolding parse_sections
 sections-end p at rs e =
     let a = check-good _ _ _ _ e in
@@ -185,8 +186,8 @@ sections-end p at rs e =
 
 pub parse-good :
     (p : List ℕ) (rs : List Row) →
-    parse p ≡ good rs →
-    (length p ≤ limit) × (parse_sections (u16_at p 6) p 8 ≡ good rs) × (8 ≤ length p) × (u32_at p 0 ≡ length p) × (u16_at p 4 ≡ 0)
+    parse p ≡ Ok rs →
+    (length p ≤ limit) × (parse_sections (u16_at p 6) p 8 ≡ Ok rs) × (8 ≤ length p) × (u32_at p 0 ≡ length p) × (u16_at p 4 ≡ 0)
 unfolding parse
 parse-good p rs e =
     let within = check-good _ _ _ _ e in

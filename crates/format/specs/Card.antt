@@ -1,7 +1,7 @@
 -- The card: the listing of the public copy, with lent output. And what it shows, by the public facts alone, proved in proofs/Card.antt.
-use Rattle.std.specs.Prelude.{ℕ, List, map, ◌≡◌}
-use Rattle.layout.specs.Checked.{Checked, good, then}
-use Rattle.layout.specs.declared.refusal.Answer.{Answer}
+use Rattle.layout.specs.Refusals.{Answer}
+use Rattle.std.specs.Prelude.{ℕ, List, map, ◌≡◌, Ok}
+use Rattle.layout.specs.Checked.{Checked, then}
 use Rattle.format.specs.Display.{plain_line, packed_line, names_line, arguments_line, page}
 use Rattle.format.specs.Listing.{listed}
 use Rattle.format.specs.Output.{answer, output_after}
@@ -41,7 +41,7 @@ shown facts = page (map fact_line facts)
 
 -- an accepted payload's card has a line for each of its facts, in order, with its count, and nothing else
 abbrev pub CardOfFacts : Type 0
-CardOfFacts = (p : List ℕ) → AcceptedPayload p → card_of p ≡ good (shown (public_facts p))
+CardOfFacts = (p : List ℕ) → AcceptedPayload p → card_of p ≡ Ok (shown (public_facts p))
 
 -- with equal facts, the same answer and the same stored bytes
 abbrev pub SameCardCall : Type 0

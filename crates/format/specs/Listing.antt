@@ -1,7 +1,7 @@
 -- The job of listing, with lent output: its answer, and the output afterwards.
-use Rattle.std.specs.Prelude.{ℕ, List, []}
-use Rattle.layout.specs.Checked.{Checked, good, then}
-use Rattle.layout.specs.declared.refusal.Answer.{Answer}
+use Rattle.layout.specs.Refusals.{Answer}
+use Rattle.std.specs.Prelude.{ℕ, List, [], Ok}
+use Rattle.layout.specs.Checked.{Checked, then}
 use Rattle.format.specs.Parse.{parse}
 use Rattle.format.specs.Resolve.{resolve}
 use Rattle.format.specs.Display.{display}
@@ -12,7 +12,7 @@ unfoldable pub listed : List ℕ → Checked (List ℕ)
 listed payload =
     then (parse payload) (λ rows.
     then (resolve payload [] rows) (λ sections.
-    good (display sections)))
+    Ok (display sections)))
 
 -- what listing answers where so many bytes are lent
 unfoldable pub list_answer : List ℕ → ℕ → Answer

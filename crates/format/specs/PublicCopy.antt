@@ -1,4 +1,5 @@
 -- The public copy: the rows of an accepted payload with all that is not public taken out, written.
+use Rattle.layout.specs.Refusals.{Answer}
 use Rattle.std.specs.Prelude.{ℕ}
 use mathlib.Core.List.{List, [], ◌∷◌, flat_map}
 use Rattle.layout.specs.Checked.{Checked, then}
@@ -8,7 +9,6 @@ use Rattle.table.specs.Tags.{tag_of}
 use Rattle.table.specs.declared.row.Row.{Row}
 use Rattle.table.specs.declared.tag.Tag.{Tag}
 use Rattle.table.specs.declared.tag.Tag.TheVariants.{PlainContents, PackedContents, Names, Arguments, Unknown, Content, Name, Pair, None}
-use Rattle.layout.specs.declared.refusal.Answer.{Answer}
 use Rattle.format.specs.Parse.{parse}
 use Rattle.format.specs.Write.{written}
 use Rattle.format.specs.Output.{answer, output_after}

@@ -1,11 +1,10 @@
 -- The job of reading, with a lent table: its answer, and the table afterwards.
-use Rattle.std.specs.Prelude.{ℕ, ◌*◌, ◌/◌, Bool, cond, List, ◌++◌, leb, length, drop}
-use Rattle.layout.specs.Checked.{Checked, fault, good, is_good}
+use Rattle.layout.specs.Refusals.{Answer}
+use Rattle.std.specs.Prelude.{ℕ, ◌*◌, ◌/◌, Bool, cond, List, ◌++◌, leb, length, drop, Err, Ok, is_ok}
+use Rattle.layout.specs.Checked.{Checked}
 use Rattle.table.specs.Rows.{width, table_of}
 use Rattle.table.specs.declared.row.Row.{Row}
 use Rattle.layout.specs.declared.refusal.Refusal.TheVariants.{NoRows}
-use Rattle.layout.specs.declared.refusal.Answer.{Answer}
-use Rattle.layout.specs.declared.refusal.Answer.TheVariants.{Accepted, Refused}
 use Rattle.format.specs.Parse.{parse}
 
 -- whether a table of so many numbers holds these rows
@@ -14,13 +13,13 @@ holds numbers rows = leb (length rows) (numbers / width)
 
 -- the answer to a table of so many numbers, by what reading comes to
 unfoldable pub rows_answer : Checked (List Row) → ℕ → Answer
-rows_answer (fault refusal) numbers = Refused refusal
-rows_answer (good rows) numbers = cond (holds numbers rows) (Accepted (length rows)) (Refused (NoRows (length rows)))
+rows_answer (Err refusal) numbers = Err refusal
+rows_answer (Ok rows) numbers = cond (holds numbers rows) (Ok (length rows)) (Err (NoRows (length rows)))
 
 -- the table afterwards
 unfoldable pub table_after : Checked (List Row) → List ℕ → List ℕ
-table_after (fault refusal) table = table
-table_after (good rows) table = cond (holds (length table) rows) (table_of rows ++ drop (length rows * width) table) table
+table_after (Err refusal) table = table
+table_after (Ok rows) table = cond (holds (length table) rows) (table_of rows ++ drop (length rows * width) table) table
 
 -- what reading a payload answers where so many numbers are lent
 unfoldable pub read_answer : List ℕ → ℕ → Answer
@@ -32,4 +31,4 @@ read_table payload table = table_after (parse payload) table
 
 -- whether a payload is accepted: none of 1 to 15 applies, however few rows are lent
 unfoldable pub accepted : List ℕ → Bool
-accepted payload = is_good (parse payload)
+accepted payload = is_ok (parse payload)

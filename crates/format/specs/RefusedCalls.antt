@@ -1,10 +1,8 @@
 -- With which of document 01's refusals a call of each job with lent output is refused. Each statement is proved under its name in
 -- proofs/RefusedCalls.antt. Reading's refusals are in Promises.antt.
-use Rattle.std.specs.Prelude.{ℕ, ◌≤◌, ◌<◌, List, ◌⊎◌, ◌≡◌, length}
-use Rattle.layout.specs.Checked.{Checked, fault, good}
-use Rattle.layout.specs.Refusals.{refusal_number, refusal_second}
-use Rattle.layout.specs.declared.refusal.Answer.{Answer}
-use Rattle.layout.specs.declared.refusal.Answer.TheVariants.{Refused}
+use Rattle.std.specs.Prelude.{ℕ, ◌≤◌, ◌<◌, List, ◌⊎◌, ◌≡◌, length, Err, Ok}
+use Rattle.layout.specs.Checked.{Checked}
+use Rattle.layout.specs.Refusals.{refusal_number, refusal_second, Answer}
 use Rattle.layout.specs.declared.refusal.Refusal.{Refusal}
 use Rattle.layout.specs.declared.refusal.Refusal.TheVariants.{NoRoom}
 use Rattle.format.specs.Card.{card_of, card_answer}
@@ -23,17 +21,17 @@ OfWriting n = (n ≡ 11) ⊎ (n ≡ 12) ⊎ (n ≡ 17) ⊎ (n ≡ 18)
 
 -- a definition comes to a fault, which has such a number, and 0 as second number
 abbrev pub Faulty : {A : Type 0} → Checked A → (ℕ → Type 0) → Refusal → Type 0
-Faulty c Number refusal = (c ≡ fault refusal) × Number (refusal_number refusal) × (refusal_second refusal ≡ 0)
+Faulty c Number refusal = (c ≡ Err refusal) × Number (refusal_number refusal) × (refusal_second refusal ≡ 0)
 
 -- 19: bytes are made, their length is the second number, and it is more than the room
 abbrev pub LacksRoom : Checked (List ℕ) → ℕ → Refusal → Type 0
-LacksRoom made room refusal = (bytes : List ℕ) × (made ≡ good bytes) × (refusal ≡ NoRoom (length bytes)) × (room < length bytes)
+LacksRoom made room refusal = (bytes : List ℕ) × (made ≡ Ok bytes) × (refusal ≡ NoRoom (length bytes)) × (room < length bytes)
 
 -- writing is refused with 11, 12, 17 or 18, then 19
 abbrev pub WriteRefuses : Type 0
 WriteRefuses =
     (payload edit table : List ℕ) (room : ℕ) (refusal : Refusal) →
-    write_answer payload edit table room ≡ Refused refusal →
+    write_answer payload edit table room ≡ Err refusal →
     (let made : Checked (List ℕ) = written_table payload edit table in
     Faulty made OfWriting refusal ⊎ LacksRoom made room refusal)
 
@@ -42,7 +40,7 @@ abbrev pub RefusesAsReading : (List ℕ → Checked (List ℕ)) → (List ℕ �
 RefusesAsReading job answers =
     (p : List ℕ) (room : ℕ) (refusal : Refusal) →
     Bytes p →
-    answers p room ≡ Refused refusal →
+    answers p room ≡ Err refusal →
     Faulty (parse p) OfReading refusal ⊎ LacksRoom (job p) room refusal
 
 -- so is the listing

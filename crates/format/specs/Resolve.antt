@@ -1,6 +1,6 @@
 -- What rows say: sections, with the texts and bytes that the rows name.
-use Rattle.std.specs.Prelude.{ℕ, true, false, List, [], ◌∷◌, ◌++◌}
-use Rattle.layout.specs.Checked.{Checked, good, then}
+use Rattle.std.specs.Prelude.{ℕ, true, false, List, [], ◌∷◌, ◌++◌, Ok}
+use Rattle.layout.specs.Checked.{Checked, then}
 use Rattle.layout.specs.Spans.{span_bytes}
 use Rattle.table.specs.Rows.{bytes_span, text_span, value_span}
 use Rattle.table.specs.Tags.{tag_of, same_tag}
@@ -43,4 +43,4 @@ module _ (payload edit : List ℕ) where
 
   -- the sections of rows that obey the rules
   unfoldable pub resolve : List Row → Checked (List Section)
-  resolve rows = then (check_rows payload edit tag.None rows) (λ _. good (sections_of rows))
+  resolve rows = then (check_rows payload edit tag.None rows) (λ _. Ok (sections_of rows))

@@ -1,15 +1,14 @@
 -- Demand 2 as statements about the definitions: what is accepted is exactly what is written. Each is proved under its name in
 -- proofs/RoundTrips.antt, EncodedBytes.antt, SaidSections.antt or Renaming.antt. Where a statement needs that bytes are bytes, or that
 -- a row's numbers fit 32 bits, it says so; else payloads, edit texts, tables and outputs are any.
-use Rattle.std.specs.Prelude.{ℕ, ◌+◌, ◌*◌, ◌/◌, ◌^◌, ◌≤◌, ◌<◌, true, List, [], ◌∷◌, map, ◌≡◌, length, get_or, take, set}
-use Rattle.layout.specs.Checked.{Checked, good, check, then}
+use Rattle.std.specs.Prelude.{ℕ, ◌+◌, ◌*◌, ◌/◌, ◌^◌, ◌≤◌, ◌<◌, true, List, [], ◌∷◌, map, ◌≡◌, length, get_or, take, set, Ok}
+use Rattle.layout.specs.Checked.{Checked, check, then}
 use Rattle.layout.specs.Spans.{Span, part, span_bytes, inside}
 use Rattle.table.specs.Rows.{width, no_row, rows_of, store_row, name_row}
 use Rattle.table.specs.Tags.{tag_of}
 use Rattle.table.specs.declared.tag.Tag.TheVariants.{Name}
 use Rattle.table.specs.declared.row.Row.{Row}
 use Rattle.layout.specs.declared.refusal.Refusal.TheVariants.{WontFit}
-use Rattle.layout.specs.declared.refusal.Answer.TheVariants.{Accepted}
 use Rattle.format.specs.Display.{display}
 use Rattle.format.specs.Encoding.{encode, within_limits}
 use Rattle.format.specs.Listing.{listed}
@@ -32,11 +31,11 @@ AcceptedIsEncoded =
 
 -- the sections that a payload's rows say
 unfoldable pub sections_read : List ℕ → Checked (List Section)
-sections_read p = then (parse p) (λ rows. good (sections_of p [] rows))
+sections_read p = then (parse p) (λ rows. Ok (sections_of p [] rows))
 
 -- the encoding of any such sections is accepted, and says just them
 abbrev pub EncodedIsAccepted : Type 0
-EncodedIsAccepted = (ss : List Section) → All WellFormed ss → within_limits ss ≡ true → sections_read (encode ss) ≡ good ss
+EncodedIsAccepted = (ss : List Section) → All WellFormed ss → within_limits ss ≡ true → sections_read (encode ss) ≡ Ok ss
 
 -- and is bytes, that is, numbers below 256
 abbrev pub EncodedBytes : Type 0
@@ -57,11 +56,11 @@ SectionsAreUnique =
 
 -- they obey the rules of rows
 abbrev pub RowsResolve : Type 0
-RowsResolve = (p edit : List ℕ) (rows : List Row) → Bytes p → parse p ≡ good rows → resolve p edit rows ≡ good (sections_of p edit rows)
+RowsResolve = (p edit : List ℕ) (rows : List Row) → Bytes p → parse p ≡ Ok rows → resolve p edit rows ≡ Ok (sections_of p edit rows)
 
 -- so that the listing of an accepted payload is the display of its sections
 abbrev pub ListsSections : Type 0
-ListsSections = (p : List ℕ) (rows : List Row) → Bytes p → parse p ≡ good rows → listed p ≡ good (display (sections_of p [] rows))
+ListsSections = (p : List ℕ) (rows : List Row) → Bytes p → parse p ≡ Ok rows → listed p ≡ Ok (display (sections_of p [] rows))
 
 -- a text of the payload itself: on side 0, inside it, and a text
 abbrev pub OwnText : List ℕ → Span → Type 0
@@ -69,11 +68,11 @@ OwnText p s = (s.side ≡ 0) × (s.start + s.count ≤ length p) × Text (part p
 
 -- each text that they name is one
 abbrev pub TextsAreTexts : Type 0
-TextsAreTexts = (p : List ℕ) (rows : List Row) → Bytes p → parse p ≡ good rows → All (λ (r : Row). All (OwnText p) (texts_of r)) rows
+TextsAreTexts = (p : List ℕ) (rows : List Row) → Bytes p → parse p ≡ Ok rows → All (λ (r : Row). All (OwnText p) (texts_of r)) rows
 
 -- they write back exactly its bytes, whatever the edit text
 abbrev pub WritesBack : Type 0
-WritesBack = (p edit : List ℕ) (rows : List Row) → Bytes p → parse p ≡ good rows → written p edit rows ≡ good p
+WritesBack = (p edit : List ℕ) (rows : List Row) → Bytes p → parse p ≡ Ok rows → written p edit rows ≡ Ok p
 
 -- the start of a table that reading was lent, up to where its rows end
 abbrev pub rows_kept : List ℕ → List ℕ → List Row → List ℕ
@@ -84,10 +83,10 @@ abbrev pub CallsWriteBack : Type 0
 CallsWriteBack =
     (p edit table output : List ℕ) (rows : List Row) →
     Bytes p →
-    parse p ≡ good rows →
+    parse p ≡ Ok rows →
     length rows ≤ length table / width →
     (let kept : List ℕ = rows_kept p table rows in
-    (write_answer p edit kept (length output) ≡ answer (good p) (length output)) × (write_output p edit kept output ≡ output_after (good p) output))
+    (write_answer p edit kept (length output) ≡ answer (Ok p) (length output)) × (write_output p edit kept output ≡ output_after (Ok p) output))
 
 -- ---- what was written
 
@@ -102,8 +101,8 @@ ReadsBack =
     Bytes payload →
     Bytes edit →
     All NumbersFit rows →
-    written payload edit rows ≡ good q →
-    Bytes q × (again : List Row) × (parse q ≡ good again) × (map (said q []) again ≡ map (said payload edit) rows)
+    written payload edit rows ≡ Ok q →
+    Bytes q × (again : List Row) × (parse q ≡ Ok again) × (map (said q []) again ≡ map (said payload edit) rows)
 
 -- said of the calls: what writing stored, read into a table that is long enough
 abbrev pub CallsReadBack : Type 0
@@ -112,20 +111,20 @@ CallsReadBack =
     Bytes payload →
     Bytes edit →
     Words table →
-    write_answer payload edit table (length output) ≡ Accepted count →
+    write_answer payload edit table (length output) ≡ Ok count →
     length (rows_of table) ≤ length lent / width →
     (let q : List ℕ = take count (write_output payload edit table output) in
     let rows : ℕ = length (rows_of table) in
     Bytes q
-    × (read_answer q (length lent) ≡ Accepted rows)
+    × (read_answer q (length lent) ≡ Ok rows)
     × (map (said q []) (take rows (rows_of (read_table q lent))) ≡ map (said payload edit) (rows_of table)))
 
 -- what rows say, places apart, is all that decides what is written from them, whatever they are written over
 abbrev pub SaidDecides : Type 0
 SaidDecides =
     (p₁ e₁ q₁ : List ℕ) (rows₁ : List Row) (p₂ e₂ q₂ : List ℕ) (rows₂ : List Row) →
-    written p₁ e₁ rows₁ ≡ good q₁ →
-    written p₂ e₂ rows₂ ≡ good q₂ →
+    written p₁ e₁ rows₁ ≡ Ok q₁ →
+    written p₂ e₂ rows₂ ≡ Ok q₂ →
     map (said p₁ e₁) rows₁ ≡ map (said p₂ e₂) rows₂ →
     q₁ ≡ q₂
 
@@ -142,23 +141,23 @@ Renames =
     (p edit q : List ℕ) (rows : List Row) (i : ℕ) (text : Span) →
     Bytes p →
     Bytes edit →
-    parse p ≡ good rows →
-    written p edit (renamed rows i text) ≡ good q →
+    parse p ≡ Ok rows →
+    written p edit (renamed rows i text) ≡ Ok q →
     (let new : Said = says Name ((get_or rows i no_row).c ∷ []) (text.count ∷ []) (span_bytes p edit text ∷ []) in
-    Bytes q × (again : List Row) × (parse q ≡ good again) × (map (said q []) again ≡ set (map (said p []) rows) i new))
+    Bytes q × (again : List Row) × (parse q ≡ Ok again) × (map (said q []) again ≡ set (map (said p []) rows) i new))
 
 -- rows that only the limits can refuse
 abbrev pub OnlyLimits : List ℕ → List ℕ → List Row → Type 0
 OnlyLimits payload edit rows =
     (let sections : List Section = sections_of payload edit rows in
-    written payload edit rows ≡ check (within_limits sections) WontFit (λ _. good (encode sections)))
+    written payload edit rows ≡ check (within_limits sections) WontFit (λ _. Ok (encode sections)))
 
 -- and where the row is a name's and the text is one, only the limits can refuse it
 abbrev pub RenameIsWritten : Type 0
 RenameIsWritten =
     (p edit : List ℕ) (rows : List Row) (i : ℕ) (text : Span) →
     Bytes p →
-    parse p ≡ good rows →
+    parse p ≡ Ok rows →
     tag_of (get_or rows i no_row).tag ≡ Name →
     inside p edit text ≡ true →
     Text (span_bytes p edit text) →
@@ -169,7 +168,7 @@ abbrev pub OwnTextIsWritten : Type 0
 OwnTextIsWritten =
     (p edit : List ℕ) (rows : List Row) (i : ℕ) (text : Span) →
     Bytes p →
-    parse p ≡ good rows →
+    parse p ≡ Ok rows →
     tag_of (get_or rows i no_row).tag ≡ Name →
     OwnText p text →
     OnlyLimits p edit (renamed rows i text)
@@ -178,7 +177,7 @@ OwnTextIsWritten =
 abbrev pub CallsRename : Type 0
 CallsRename =
     (p edit table output : List ℕ) (rows : List Row) (i : ℕ) (text : Span) →
-    parse p ≡ good rows →
+    parse p ≡ Ok rows →
     length rows ≤ length table / width →
     (let kept : List ℕ = rows_kept p table rows in
     let edited : List ℕ = store_row kept i (name_row text (get_or (rows_of kept) i no_row).c) in

@@ -1,7 +1,7 @@
 -- The rules of rows: what a row of each tag may hold, and what it may follow.
-use Rattle.std.specs.Prelude.{ℕ, ◌%◌, Bool, true, false, cond, ◌&&◌, List, [], ◌∷◌, leb, eqb}
+use Rattle.std.specs.Prelude.{ℕ, ◌%◌, Bool, true, false, cond, ◌&&◌, List, [], ◌∷◌, leb, eqb, Ok}
 use Rattle.wire.specs.Padding.{all_zero}
-use Rattle.layout.specs.Checked.{Checked, good, check, then}
+use Rattle.layout.specs.Checked.{Checked, check, then}
 use Rattle.layout.specs.Spans.{Span, inside}
 use Rattle.layout.specs.TextCheck.{check_span}
 use Rattle.layout.specs.declared.refusal.Refusal.TheVariants.{BadRow}
@@ -43,7 +43,7 @@ module _ (payload edit : List ℕ) where
 
   -- texts in order: the first fault counts
   unfoldable pub check_texts : List Span → Checked (Unit {0})
-  check_texts [] = good tt
+  check_texts [] = Ok tt
   check_texts (s ∷ spans) = then (check_span payload edit s) (λ _. check_texts spans)
 
   -- a row after a row of the previous tag: its rule, then its texts
@@ -54,7 +54,7 @@ module _ (payload edit : List ℕ) where
 
   -- rows in order, the first after a row of the previous tag: the first fault counts
   unfoldable pub check_rows : Tag → List Row → Checked (Unit {0})
-  check_rows previous [] = good tt
+  check_rows previous [] = Ok tt
   check_rows previous (r ∷ rows) =
       then (check_row previous r) (λ _.
       check_rows (tag_of r.tag) rows)

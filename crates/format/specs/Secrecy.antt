@@ -1,12 +1,10 @@
 -- Demand 3 as statements about the definitions, of every accepted payload: what a holder of the public copy can learn. Each is proved under its
 -- name in proofs/Secrecy.antt.
-use Rattle.std.specs.Prelude.{ℕ, ◌≤◌, ◌<◌, true, List, [], ◌++◌, map, ◌≡◌, length, drop, replicate}
-use Rattle.layout.specs.Checked.{good}
+use Rattle.layout.specs.Refusals.{Answer}
+use Rattle.std.specs.Prelude.{ℕ, ◌≤◌, ◌<◌, true, List, [], ◌++◌, map, ◌≡◌, length, drop, replicate, Err, Ok}
 use Rattle.table.specs.declared.row.Row.{Row}
 use Rattle.layout.specs.declared.refusal.Refusal.{Refusal}
 use Rattle.layout.specs.declared.refusal.Refusal.TheVariants.{NoRoom}
-use Rattle.layout.specs.declared.refusal.Answer.{Answer}
-use Rattle.layout.specs.declared.refusal.Answer.TheVariants.{Refused}
 use Rattle.format.specs.Encoding.{encode}
 use Rattle.format.specs.PublicCopy.{public_copy, copy_answer, copy_output}
 use Rattle.format.specs.PublicFacts.{Fact, plain_contents, packed_contents, name_texts, argument_pairs, public_facts}
@@ -33,7 +31,7 @@ unfoldable pub made : List Fact → List ℕ
 made facts = encode (map section_of facts)
 
 abbrev pub CopyOfFacts : Type 0
-CopyOfFacts = (p : List ℕ) → AcceptedPayload p → public_copy p ≡ good (made (public_facts p))
+CopyOfFacts = (p : List ℕ) → AcceptedPayload p → public_copy p ≡ Ok (made (public_facts p))
 
 -- ---- equal exactly when
 
@@ -71,10 +69,10 @@ CopyIsPublic =
     (p : List ℕ) →
     AcceptedPayload p →
     (c : List ℕ)
-    × (public_copy p ≡ good c)
+    × (public_copy p ≡ Ok c)
     × AcceptedPayload c
     × (public_facts c ≡ public_facts p)
-    × (public_copy c ≡ good c)
+    × (public_copy c ≡ Ok c)
     × (length c ≤ length p)
 
 -- the public copy of an accepted payload is refused with 19 alone, and with its own length, which does not fit
@@ -82,7 +80,7 @@ abbrev pub RefusedForRoom : Type 0
 RefusedForRoom =
     (p : List ℕ) (room : ℕ) (refusal : Refusal) →
     AcceptedPayload p →
-    copy_answer p room ≡ Refused refusal →
+    copy_answer p room ≡ Err refusal →
     (refusal ≡ NoRoom (length (made (public_facts p)))) × (room < length (made (public_facts p)))
 
 -- ---- what was written
@@ -94,5 +92,5 @@ WrittenIsAccepted =
     Bytes payload →
     Bytes edit →
     All NumbersFit rows →
-    written payload edit rows ≡ good q →
-    AcceptedPayload q × (c : List ℕ) × (public_copy q ≡ good c)
+    written payload edit rows ≡ Ok q →
+    AcceptedPayload q × (c : List ℕ) × (public_copy q ≡ Ok c)

@@ -1,11 +1,11 @@
 -- The job of writing, with lent output: its answer, and the output afterwards.
-use Rattle.std.specs.Prelude.{ℕ, ◌%◌, List, eqb, length}
-use Rattle.layout.specs.Checked.{Checked, good, check, then}
+use Rattle.layout.specs.Refusals.{Answer}
+use Rattle.std.specs.Prelude.{ℕ, ◌%◌, List, eqb, length, Ok}
+use Rattle.layout.specs.Checked.{Checked, check, then}
 use Rattle.format.specs.Encoding.{encode, within_limits}
 use Rattle.table.specs.Rows.{width, rows_of}
 use Rattle.table.specs.declared.row.Row.{Row}
 use Rattle.layout.specs.declared.refusal.Refusal.TheVariants.{BadRow, WontFit}
-use Rattle.layout.specs.declared.refusal.Answer.{Answer}
 use Rattle.format.specs.Resolve.{resolve}
 use Rattle.format.specs.Output.{answer, output_after}
 
@@ -14,7 +14,7 @@ unfoldable pub written : List ℕ → List ℕ → List Row → Checked (List �
 written payload edit rows =
     then (resolve payload edit rows) (λ sections.
     check (within_limits sections) WontFit (λ _.
-    good (encode sections)))
+    Ok (encode sections)))
 
 -- the same from a table, which holds whole rows
 unfoldable pub written_table : List ℕ → List ℕ → List ℕ → Checked (List ℕ)

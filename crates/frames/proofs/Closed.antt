@@ -7,7 +7,7 @@ use native.Mathlib.Omega.{arith}
 use lib.ListN.{length, replicate, length-append}
 use lib.Seq.{sets}
 use Rattle.wire.specs.Padding.{padding, aligned}
-use Rattle.wire.proofs.NumberLaws.{length-bytes_of, number-stored, fields-stored}
+use Rattle.wire.proofs.NumberLaws.{length-bytes_of, bytes_of-low, number-stored, fields-stored}
 use Rattle.wire.proofs.Sets.{sets-before, sets-joined}
 use Rattle.layout.specs.Kinds.{kind_number}
 use Rattle.layout.specs.declared.section_type.SourceInfoSectionType.{SourceInfoSectionType}
@@ -41,6 +41,9 @@ unfolding framed
 body-first body l at end kind =
     let size : ℕ = aligned (end - at) in
     rw (append-nil, sets-before (section_header size (kind_number kind)) body l at (at + 8) (omega (arith, length-top size (kind_number kind))))
+
+-- the fields of a body header in a row, and the frame after them
+pub ruleset fields_first = (bytes_of-low, fields-stored, contents-stored, body-first)
 
 -- ---- a section at a place, up to the end of what it stores
 

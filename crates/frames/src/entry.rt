@@ -5,19 +5,19 @@ ghost use Rattle.wire.specs.Padding.{aligned};
 ghost use Rattle.format.specs.Encoding.{u32};
 ghost use Rattle.frames.specs.Frame.{entry_framed};
 
-use crate::distance;
 use layout::SourceInfoSectionType;
 
 // Closes an entry that stands at `start` and whose text ends at `end`: stores what its header begins with, and zeros from
 // `end` on. Answers the place after it.
+#[tactic(auto, using(wire::proofs::PaddingLaws::padding_bounds), unfolding(wire::specs::Padding::aligned))]
 fn close_entry(output: &mut [u8], start: u32, header: usize, end: u32) -> usize
     requires { header ≤ 16 }
     ensures value { result ≡ start + aligned (end - start + 1) }
     ensures output_after { output.new ≡ entry_framed output.old start header end }
 {
     let at = start as usize;
-    let length = distance(at, end as usize) + 1;
-    let text = distance(at + header, end as usize) + 1;
+    let length = (end as usize).saturating_sub(at) + 1;
+    let text = (end as usize).saturating_sub(at + header) + 1;
     let zeros = wire::padding_length(length);
     wire::write_u32(output, at, ((length + zeros) % 0x1_0000_0000) as u32);
     wire::write_u32(output, at + 4, 0);
@@ -58,10 +58,6 @@ pub fn close_text(output: &mut [u8], end: u32) -> usize
     ensures value { result ≡ end + 1 }
     ensures output_after { output.new ≡ sets output.old end (0 ∷ []) }
 {
-    let at = end as usize;
-    if output.len() <= at {
-        return at + 1;
-    }
-    output[at] = 0;
-    at + 1
+    wire::write_zeros(output, end as usize, 1);
+    end as usize + 1
 }

@@ -17,24 +17,15 @@ ghost use Rattle.frames.specs.Frame.{framed, contents_header, names_header, argu
 pub use entry::{close_content, close_name, close_text};
 use layout::{SourceCompression, SourceInfoSectionType};
 
-// How far it is from one place to another; 0 where the other comes first.
-pub(crate) fn distance(from: usize, to: usize) -> usize
-    ensures { result ≡ to - from }
-{
-    if to < from {
-        return 0;
-    }
-    to - from
-}
-
 // Closes a section that stands at `start` and whose stored bytes end at `end`: stores its section header, and zeros
 // from `end` on up to a multiple of 4. Answers the place after it. A section of an unknown kind has no other header.
+#[tactic(auto, using(wire::proofs::PaddingLaws::padding_bounds), unfolding(wire::specs::Padding::aligned))]
 pub fn close_section(output: &mut [u8], start: u32, end: u32, kind: SourceInfoSectionType) -> usize
     ensures value { result ≡ start + aligned (end - start) }
     ensures output_after { output.new ≡ framed output.old start end kind [] }
 {
     let at = start as usize;
-    let length = distance(at, end as usize);
+    let length = (end as usize).saturating_sub(at);
     let zeros = wire::padding_length(length);
     let size = length + zeros;
     wire::write_u32(output, at, (size % 0x1_0000_0000) as u32);
@@ -45,6 +36,7 @@ pub fn close_section(output: &mut [u8], start: u32, end: u32, kind: SourceInfoSe
 }
 
 // The same for contents, with their body header.
+#[tactic(auto, using(crate::proofs::Closed::fields_first))]
 pub fn close_contents(
     output: &mut [u8],
     start: u32,
@@ -58,7 +50,7 @@ pub fn close_contents(
     ensures output_after { output.new ≡ framed output.old start end SourceContents (contents_header field (compression_number compression) (end - (start + 28)) uncompressed count) }
 {
     let at = start as usize;
-    let bytes = distance(at + SourceInfoSectionType::CONTENTS_START, end as usize);
+    let bytes = (end as usize).saturating_sub(at + SourceInfoSectionType::CONTENTS_START);
     wire::write_u32(output, at + 8, field);
     wire::write_u16(output, at + 12, 0);
     wire::write_u16(output, at + 14, compression.to_u16());
@@ -69,12 +61,13 @@ pub fn close_contents(
 }
 
 // The same for names. The field for the size of their entries has 16 bits.
+#[tactic(auto, using(crate::proofs::Closed::fields_first))]
 pub fn close_names(output: &mut [u8], start: u32, end: u32, count: u32) -> usize
     ensures value { result ≡ start + aligned (end - start) }
     ensures output_after { output.new ≡ framed output.old start end SourceNames (names_header (end - (start + 18)) count) }
 {
     let at = start as usize;
-    let bytes = distance(at + SourceInfoSectionType::NAMES_START, end as usize);
+    let bytes = (end as usize).saturating_sub(at + SourceInfoSectionType::NAMES_START);
     wire::write_u32(output, at + 8, 0);
     wire::write_u32(output, at + 12, count);
     wire::write_u16(output, at + 16, (bytes % 0x1_0000) as u16);
@@ -82,12 +75,13 @@ pub fn close_names(output: &mut [u8], start: u32, end: u32, count: u32) -> usize
 }
 
 // The same for arguments.
+#[tactic(auto, using(crate::proofs::Closed::fields_first))]
 pub fn close_arguments(output: &mut [u8], start: u32, end: u32, count: u32) -> usize
     ensures value { result ≡ start + aligned (end - start) }
     ensures output_after { output.new ≡ framed output.old start end Arguments (arguments_header (end - (start + 20)) count) }
 {
     let at = start as usize;
-    let bytes = distance(at + SourceInfoSectionType::ARGS_START, end as usize);
+    let bytes = (end as usize).saturating_sub(at + SourceInfoSectionType::ARGS_START);
     wire::write_u32(output, at + 8, 0);
     wire::write_u32(output, at + 12, bytes as u32);
     wire::write_u32(output, at + 16, count);

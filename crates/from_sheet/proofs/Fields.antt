@@ -1,6 +1,6 @@
 -- What a field says, from a place on: a byte for each pair of digits; a byte for each escape, and runs of bytes that stand for themselves.
 -- Assumes nothing.
-use Prim.Native.Nat.{ℕ, suc, ◌+◌, ◌*◌, ◌≤◌, ◌<◌}
+use Prim.Native.Nat.{ℕ, suc, ◌+◌, ◌-◌, ◌*◌, ◌≤◌, ◌<◌}
 use mathlib.Core.Bool.{Bool, true, false, ◌&&◌, ◌||◌, and-eq-true_iff}
 use mathlib.Core.List.{List, [], ◌∷◌, ◌++◌}
 use mathlib.Core.Path.{◌≡◌, refl, sym, ap, ◌∙◌}
@@ -9,7 +9,7 @@ use native.Mathlib.Omega.{arith}
 use borrow.Author.Tests.{leb-true, eqb-true, ltb-true, ltb-false}
 use lib.Dec.{eqb, leb, ltb}
 use lib.ListN.{length, get_or, take, drop, length-drop, drop_of_length-le}
-use lib.Seq.{drop-cons, drop-drop, length-take-le}
+use lib.Seq.{drop-cons, drop-drop, length-take-le, take_all}
 use Rattle.find.specs.Find.{until, is_any}
 use Rattle.find.proofs.FindLaws.{any-one, until-found, until-more, until-least}
 use Rattle.sheet.specs.Fields.{backslash, is_hex_digit, hex_value, is_hex_pairs, bytes_of_pairs, meant, unescape}
@@ -129,3 +129,12 @@ run f i m h e is =
 
 pub unescape-end : (f : List ℕ) (i : ℕ) → length f ≤ i → unescape (drop i f) ≡ []
 unescape-end f i h = unfold unescape in rw (drop_of_length-le f h)
+
+-- the same, where the search went over what is left of the field as a slice
+pub run-found :
+    (f : List ℕ) (i m : ℕ) →
+    i < length f →
+    is_pair f i ≡ false →
+    m ≡ until slash (take (length f - (i + 1)) (drop (i + 1) f)) →
+    Run f i (1 + m)
+run-found f i m h e is = run f i m h e (is ∙ ap (until slash) (take_all (length f - (i + 1)) (drop (i + 1) f) (omega (arith, length-drop (i + 1) f))))

@@ -3,4 +3,4 @@ pub mod Said
 pub mod RunLaws
 pub mod RecordsFrom
 pub mod SectionParts
-pub mod SectionHere
+pub mod SectionBegun

@@ -1,5 +1,6 @@
 -- The lines from a place on: the one that stands there and those after it; and those of a whole sheet that is read.
 -- Assumes nothing.
+use Rattle.std.specs.Prelude.{Ok}
 use Prim.Native.Nat.{ℕ, ◌+◌, ◌-◌, ◌≤◌, ◌<◌}
 use mathlib.Core.Bool.{Bool, true, false}
 use mathlib.Core.List.{List, [], ◌∷◌, map}
@@ -11,7 +12,6 @@ use lib.ListN.{length, take, drop, length-drop, drop_of_length-le}
 use lib.Seq.{length-take-le}
 use Rattle.find.specs.Find.{until}
 use Rattle.find.proofs.FindLaws.{until-least}
-use Rattle.layout.specs.Checked.{good}
 use Rattle.layout.proofs.Checked.{check-good, then-good}
 use Rattle.table.specs.declared.tag.Tag.{Tag}
 use Rattle.table.specs.declared.tag.Tag.TheVariants.{None}
@@ -80,7 +80,7 @@ records-end s at h = rw (drop_of_length-le s h)
 
 read-lines :
     (rest : List (List ℕ)) (n : ℕ) (previous : Tag) (first : List ℕ) (rs : List Record) →
-    read_lines n previous first rest ≡ good rs →
+    read_lines n previous first rest ≡ Ok rs →
     (map record_of (closed_parts first rest) ≡ rs) × LinesChecked first rest
 unfolding read_lines closed_parts LinesChecked
 read-lines [] n previous last rs e =
@@ -99,7 +99,7 @@ read-lines (second ∷ rest) n previous first rs e =
     let all : r ∷ others ≡ rs = cc in
     (ap₂ (λ (a : Record) (l : List Record). a ∷ l) own records ∙ all, ((t.made, subst (λ (r : Record). is_ruled r ≡ true) t.is t.ruled), checked))
 
-pub sheet-read : (s : List ℕ) (rs : List Record) → sheet_records s ≡ good rs → (records_from s 0 ≡ rs) × AtSection s 0
+pub sheet-read : (s : List ℕ) (rs : List Record) → sheet_records s ≡ Ok rs → (records_from s 0 ≡ rs) × AtSection s 0
 unfolding sheet_records
 sheet-read s rs e =
     let (records, checked) = read-lines (split newline s).rest 1 None (split newline s).first rs e in
@@ -112,7 +112,7 @@ pub record Payload (s p : List ℕ) : Type 0 where
   pub few : length (sections_from s 0) ≤ 65535
   pub small : length p ≤ limit
 
-pub payload-read : (s p : List ℕ) → from_sheet s ≡ good p → Payload s p
+pub payload-read : (s p : List ℕ) → from_sheet s ≡ Ok p → Payload s p
 unfolding from_sheet
 payload-read s p e =
     let (rs, read, rest) = then-good _ _ _ e in

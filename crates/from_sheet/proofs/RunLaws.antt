@@ -6,7 +6,7 @@ use mathlib.Core.Bool.{true, false, and-eq-true_iff}
 use mathlib.Core.List.{List, [], ◌∷◌, ◌++◌, flat_map}
 use mathlib.Core.Path.{◌≡◌, refl, sym, ap, ◌∙◌}
 use native.Mathlib.Omega.{arith}
-use lib.ListN.{length}
+use lib.ListN.{length, length-append}
 use Rattle.wire.specs.Length.{wire_size}
 use Rattle.wire.proofs.PaddingLaws.{le-aligned}
 use Rattle.layout.proofs.Lists.{flat_map-least}
@@ -42,6 +42,33 @@ module _ (t : Tag) where
     run-stops e =
         let none = leading-ends t (λ (r : Record). r) r rs (λ q. let z : ◌≡◌ {A = ℕ} 0 1 = cc (same_tag_lem r.tag t q) in omega arith) in
         (none, rw none, rw (e, past))
+
+-- what the first of some records adds, where it has the tag
+pub record More (t : Tag) (r : Record) (rs all : List Record) : Type 0 where
+  pub many : length (run t all) ≡ suc (length (run t rs))
+  pub bytes : run_bytes t all ≡ entry_bytes r.tag r ++ run_bytes t rs
+  pub size : length (run_bytes t all) ≡ length (entry_bytes r.tag r) + length (run_bytes t rs)
+  pub after : past t all ≡ past t rs
+
+pub more : (t : Tag) (r : Record) (rs : List Record) {all : List Record} → r.tag ≡ t → all ≡ r ∷ rs → More t r rs all
+more t r rs e is =
+    let (many, bytes, after) = run_more t r rs (same_tag_lem r.tag t e) in
+    let joined = ap (run_bytes t) is ∙ bytes ∙ ap (λ (u : Tag). entry_bytes u r ++ run_bytes t rs) (sym e) in
+    record {
+      many = ap (λ (l : List Record). length (run t l)) is ∙ ap length many;
+      bytes = joined;
+      size = ap length joined ∙ length-append (entry_bytes r.tag r) (run_bytes t rs);
+      after = ap (past t) is ∙ after;
+    }
+
+-- where none has it
+pub no-run : (t : Tag) (rs : List Record) → run t rs ≡ [] → (run_bytes t rs ≡ []) × (past t rs ≡ rs)
+no-run t [] e = ((run_none t).1, (run_none t).2)
+no-run t (r ∷ rs) e =
+    elim (tag-discrete r.tag t) [
+      | yes q ↦ let some = (run_more t r rs (same_tag_lem r.tag t q)).0 in absurd (omega (arith, ap length some, ap length e))
+      | no n ↦ let stops = run-stops t r rs (other_tag r.tag t n) in (stops.1, stops.2)
+    ]
 
 -- ---- whatever the records are read as
 
@@ -161,3 +188,12 @@ past-order previous (r ∷ rs) h =
     go (entry b e fixed) order more =
         let goes = (run_more (entry_tag previous) r rs (same_tag_lem r.tag (entry_tag previous) (sym e))).2 in
         ap (in_order tag.None) (goes ∙ ap (λ (t : Tag). past t rs) (e ∙ sym fixed)) ∙ more
+
+pub past-fewer : (t : Tag) (rs : List Record) → length (past t rs) ≤ length rs
+past-fewer t [] = rw (run_none t).2 (omega arith)
+past-fewer t (r ∷ rs) =
+    let rest = past-fewer t rs in
+    elim (tag-discrete r.tag t) [
+      | yes q ↦ rw (run_more t r rs (same_tag_lem r.tag t q)).2 (omega arith)
+      | no n ↦ rw (run-stops t r rs (other_tag r.tag t n)).2 (omega arith)
+    ]

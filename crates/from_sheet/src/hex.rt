@@ -3,12 +3,16 @@ ghost use Rattle.std.specs.Prelude.{true, ◌≡◌, ◌+◌, ◌≤◌, length}
 ghost use Rattle.std.proofs.lemmas.List.Edits.{sets};
 ghost use Rattle.sheet.specs.Fields.{is_hex_digit, hex_value, is_hex_pairs, bytes_of_pairs};
 
-// The number of a digit.
+// The number of a digit. The letter a is 97, and stands for 10.
 fn value(digit: u8) -> u8
     requires { is_hex_digit digit ≡ true }
     ensures { result ≡ hex_value digit }
 {
-    if digit <= 57 { digit - 48 } else { digit - 87 }
+    if digit <= b'9' {
+        digit - b'0'
+    } else {
+        digit - 87
+    }
 }
 
 // All bytes. Answers the place after them.
@@ -19,10 +23,8 @@ pub fn write_unpaired(output: &mut [u8], at: usize, field: &[u8]) -> usize
     ensures output_after { output.new ≡ sets output.old at (bytes_of_pairs field.now) }
 {
     let count = field.len() / 2;
-    let mut i = 0;
-    while i < count {
+    for i in 0..count {
         output[at + i] = 16 * value(field[2 * i]) + value(field[2 * i + 1]);
-        i += 1;
     }
     at + count
 }

@@ -9,7 +9,8 @@
 
 mod entry;
 mod hex;
-mod number;
+mod record;
+mod records;
 mod run;
 mod section;
 mod source_info;
@@ -18,22 +19,19 @@ mod text;
 ghost use Rattle.std.specs.Prelude.{◌≡◌, length};
 ghost use Rattle.sheet.specs.FromSheet.{from_sheet_answer, from_sheet_output};
 
+use crate::records::Records;
 use layout::{Answer, Refusal};
-use sizes::Measured;
 
 // Makes the payload of a sheet in a lent output, whole, or refuses the sheet and leaves the output as it was.
 pub fn from_sheet(sheet: &[u8], output: &mut [u8]) -> Answer
     ensures value { result ≡ from_sheet_answer sheet.now (length output.old) }
     ensures output_after { output.new ≡ from_sheet_output sheet.now output.old }
 {
-    match lines::measure(sheet) {
-        Measured::Refused(refusal) => Answer::Refused(refusal),
-        Measured::Bytes(size) => {
-            if output.len() < size as usize {
-                return Answer::Refused(Refusal::NoRoom(size));
-            }
-            source_info::store_srci(sheet, output, size);
-            Answer::Accepted(size)
-        }
+    let size = lines::measure(sheet)?;
+    let short = output.len() < size as usize;
+    if short {
+        return Err(Refusal::NoRoom(size));
     }
+    source_info::store_srci(Records::new(sheet), output, size);
+    Ok(size)
 }

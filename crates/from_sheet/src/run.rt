@@ -1,36 +1,32 @@
-// The entries that lines are, stored at a place of the output.
-ghost use Rattle.std.specs.Prelude.{true, ◌≡◌, ◌+◌, ◌≤◌, length};
+// The entries that records are, stored at a place of the output.
+ghost use Rattle.std.specs.Prelude.{◌≡◌, ◌+◌, ◌≤◌, ◌<◌, ◌^◌, length};
 ghost use Rattle.std.proofs.lemmas.List.Edits.{sets};
 ghost use Rattle.format.specs.Encoding.{limit};
-ghost use Rattle.sheet.specs.Lines.{said_by, is_made};
-ghost use Rattle.from_sheet.specs.Records.{fields_of, records_from, CheckedFrom};
 ghost use Rattle.from_sheet.specs.Run.{entry_bytes, run, run_bytes, past};
 
 use crate::entry::{store_content, store_name, store_pair};
-use crate::number::number;
-use line_reader::{field, tag_of};
+use crate::record::LineRecord;
+use crate::records::Records;
 use table::Tag;
 
-// Where a run of entries ends: the place of the line after it, the place of the output after it, and how many they are.
+// Where a run of entries ends in the output, and how many they are.
 #[derive(Clone, Copy)]
 pub struct RunEnd {
-    pub at: usize,
     pub to: usize,
     pub count: usize,
 }
 
-// Stores the entry that a line of a tag is, and answers the place after it. A section's own line is no entry.
-fn store_entry(output: &mut [u8], to: u32, tag: Tag, line: &[u8]) -> usize
-    requires line_value { is_made tag (fields_of line.now) ≡ true }
-    requires line_in_bounds { to + length (entry_bytes tag (said_by tag (fields_of line.now))) ≤ length output.old }
-    requires line_bound { to + length (entry_bytes tag (said_by tag (fields_of line.now))) ≤ limit }
-    ensures value { result ≡ to + length (entry_bytes tag (said_by tag (fields_of line.now))) }
-    ensures output_after { output.new ≡ sets output.old to (entry_bytes tag (said_by tag (fields_of line.now))) }
+// Stores the entry that a record is, and answers the place after it. A section's own record is no entry.
+fn store_entry(output: &mut [u8], to: u32, record: &LineRecord<'_>) -> usize
+    requires in_bounds { to + length (entry_bytes record.now.tag record.now) ≤ length output.old }
+    requires bound { to + length (entry_bytes record.now.tag record.now) ≤ limit }
+    ensures value { result ≡ to + length (entry_bytes record.now.tag record.now) }
+    ensures output_after { output.new ≡ sets output.old to (entry_bytes record.now.tag record.now) }
 {
-    match tag {
-        Tag::Content => store_content(output, to, field(line, 0)),
-        Tag::Name => store_name(output, to, field(line, 1), number(line, 0)),
-        Tag::Pair => store_pair(output, to, field(line, 0), field(line, 1)),
+    match record.tag() {
+        Tag::Content => store_content(output, to, record.field(0)),
+        Tag::Name => store_name(output, to, record.field(1), record.number(0)),
+        Tag::Pair => store_pair(output, to, record.field(0), record.field(1)),
         Tag::PlainContents => to as usize,
         Tag::PackedContents => to as usize,
         Tag::Names => to as usize,
@@ -40,36 +36,21 @@ fn store_entry(output: &mut [u8], to: u32, tag: Tag, line: &[u8]) -> usize
     }
 }
 
-// Stores the entries that the lines of a tag are, from the line at a place on, and answers where they end.
-pub fn store_entries(
-    sheet: &[u8],
-    first: usize,
-    tag: Tag,
-    output: &mut [u8],
-    start: usize,
-) -> RunEnd
-    requires checked_from { CheckedFrom sheet.now first }
-    requires first_in_bounds { start + length (run_bytes tag (records_from sheet.now first)) ≤ length output.old }
-    requires first_bound { start + length (run_bytes tag (records_from sheet.now first)) ≤ limit }
-    ensures first_le_at { first ≤ result.at }
-    ensures checked_from_2 { CheckedFrom sheet.now result.at }
-    ensures at_value { records_from sheet.now result.at ≡ past tag (records_from sheet.now first) }
-    ensures to_value { result.to ≡ start + length (run_bytes tag (records_from sheet.now first)) }
-    ensures count_value { result.count ≡ length (run tag (records_from sheet.now first)) }
-    ensures output_after { output.new ≡ sets output.old start (run_bytes tag (records_from sheet.now first)) }
+// Stores the entries that the next records of a tag are, and answers where they end.
+pub fn store_entries(records: &mut Records<'_>, tag: Tag, output: &mut [u8], start: usize) -> RunEnd
+    requires few { length (run tag records.old) < 2 ^ 32 }
+    requires in_bounds { start + length (run_bytes tag records.old) ≤ length output.old }
+    requires bound { start + length (run_bytes tag records.old) ≤ limit }
+    ensures records_after { records.new ≡ past tag records.old }
+    ensures to_value { result.to ≡ start + length (run_bytes tag records.old) }
+    ensures count_value { result.count ≡ length (run tag records.old) }
+    ensures output_after { output.new ≡ sets output.old start (run_bytes tag records.old) }
 {
-    let mut at = first;
     let mut to = start;
     let mut count = 0;
-    while at < sheet.len() {
-        let end = lines::line_end(sheet, at);
-        let line = &sheet[at..end];
-        if !tag_of(line).same(tag) {
-            break;
-        }
-        to = store_entry(output, to as u32, tag, line);
+    while let Some(record) = records.next_of(tag) {
+        to = store_entry(output, to as u32, &record);
         count += 1;
-        at = end + 1;
     }
-    RunEnd { at, to, count }
+    RunEnd { to, count }
 }

@@ -4,15 +4,15 @@ ghost use Rattle.std.proofs.lemmas.List.Edits.{sets};
 ghost use Rattle.sheet.specs.Fields.{meant, unescape};
 ghost use Rattle.from_sheet.specs.Escape.{is_pair};
 
-const BACKSLASH: u8 = 92;
+const BACKSLASH: u8 = b'\\';
 
 // What a backslash followed by a letter stands for.
 fn meant_by(letter: u8) -> u8
     ensures { result ≡ meant letter }
 {
     match letter {
-        116 => 9,
-        110 => 10,
+        b't' => b'\t',
+        b'n' => b'\n',
         _ => BACKSLASH,
     }
 }
@@ -25,7 +25,8 @@ fn is_pair(field: &[u8], at: usize) -> bool
     (field[at] == BACKSLASH) & (at + 1 < field.len())
 }
 
-// A whole text. Bytes that stand for themselves are copied in runs; a backslash with nothing after it is one of them.
+// A whole text. Bytes that stand for themselves are copied in runs, so that the place moves on by their
+// lengths; a backslash with nothing after it is one of them.
 // Answers the place after it.
 pub fn write_unescaped(output: &mut [u8], at: usize, field: &[u8]) -> usize
     requires { at + length (unescape field.now) ≤ length output.old }

@@ -1,50 +1,60 @@
 -- What a definition that may refuse says. Forwards: the step after a fault is not taken, and the step after a value has it. Backwards: where
 -- there is a value, each test that was made held, each step before has a value, and the value is what follows gives.
 -- Assumes nothing.
+use Rattle.std.specs.Prelude.{Err, Ok, is_ok}
 use Prim.Native.Nat.{ℕ}
 use mathlib.Core.Bool.{Bool, true, false}
 use mathlib.Core.Path.{◌≡◌, refl, ◌∙◌}
 use native.Mathlib.Omega.{arith}
-use Rattle.layout.specs.Checked.{Checked, fault, good, check, then, is_good}
+use Rattle.layout.specs.Checked.{Checked, check, then, taking}
 use Rattle.layout.specs.declared.refusal.Refusal.{Refusal}
 
-pub after-fault : {A B : Type 0} (c : Checked A) (next : A → Checked B) {r : Refusal} → c ≡ fault r → then c next ≡ fault r
+pub after-fault : {A B : Type 0} (c : Checked A) (next : A → Checked B) {r : Refusal} → c ≡ Err r → then c next ≡ Err r
 unfolding then
 after-fault c next e = rw e
 
-pub after-good : {A B : Type 0} (c : Checked A) (next : A → Checked B) {a : A} → c ≡ good a → then c next ≡ next a
+pub after-good : {A B : Type 0} (c : Checked A) (next : A → Checked B) {a : A} → c ≡ Ok a → then c next ≡ next a
 unfolding then
 after-good c next e = rw e
 
 pub check-passes :
     {A : Type 0} (test : Bool) (refusal : Refusal) (next : Unit {0} → Checked A) {a : A} →
     test ≡ true →
-    next tt ≡ good a →
-    check test refusal next ≡ good a
+    next tt ≡ Ok a →
+    check test refusal next ≡ Ok a
 unfolding check
 check-passes true refusal next e f = f
 check-passes false refusal next e f = let z : ◌≡◌ {A = ℕ} 0 1 = cc in absurd (omega arith)
 
 pub then-passes :
-    {A B : Type 0} (c : Checked A) (next : A → Checked B) {a : A} {b : B} → c ≡ good a → next a ≡ good b → then c next ≡ good b
+    {A B : Type 0} (c : Checked A) (next : A → Checked B) {a : A} {b : B} → c ≡ Ok a → next a ≡ Ok b → then c next ≡ Ok b
 then-passes c next e f = after-good c next e ∙ f
 
 pub check-good :
     {A : Type 0} (test : Bool) (refusal : Refusal) (next : Unit {0} → Checked A) (a : A) →
-    check test refusal next ≡ good a →
-    (test ≡ true) × (next tt ≡ good a)
+    check test refusal next ≡ Ok a →
+    (test ≡ true) × (next tt ≡ Ok a)
 unfolding check
 check-good true refusal next a e = (refl, e)
 check-good false refusal next a e = let z : ◌≡◌ {A = ℕ} 0 1 = cc in absurd (omega arith)
 
 pub then-good :
     {A B : Type 0} (c : Checked A) (next : A → Checked B) (b : B) →
-    then c next ≡ good b →
-    (a : A) × (c ≡ good a) × (next a ≡ good b)
+    then c next ≡ Ok b →
+    (a : A) × (c ≡ Ok a) × (next a ≡ Ok b)
 unfolding then
-then-good (fault refusal) next b e = let z : ◌≡◌ {A = ℕ} 0 1 = cc in absurd (omega arith)
-then-good (good a) next b e = (a, refl, e)
+then-good (Err refusal) next b e = let z : ◌≡◌ {A = ℕ} 0 1 = cc in absurd (omega arith)
+then-good (Ok a) next b e = (a, refl, e)
 
-pub is-good : {A : Type 0} (c : Checked A) → is_good c ≡ true → (a : A) × (c ≡ good a)
-is-good (fault refusal) e = let z : ◌≡◌ {A = ℕ} 0 1 = cc in absurd (omega arith)
-is-good (good a) e = (a, refl)
+pub is-good : {A : Type 0} (c : Checked A) → is_ok c ≡ true → (a : A) × (c ≡ Ok a)
+is-good (Err refusal) e = let z : ◌≡◌ {A = ℕ} 0 1 = cc in absurd (omega arith)
+is-good (Ok a) e = (a, refl)
+
+-- what is taken of a value comes from a value, and a fault from itself
+pub taking-ok : {A B : Type 0} (f : A → B) (c : Checked A) (b : B) → taking f c ≡ Ok b → (a : A) × (c ≡ Ok a) × (f a ≡ b)
+taking-ok f (Err refusal) b e = let z : ◌≡◌ {A = ℕ} 0 1 = cc in absurd (omega arith)
+taking-ok f (Ok a) b e = (a, refl, cc)
+
+pub taking-err : {A B : Type 0} (f : A → B) (c : Checked A) (r : Refusal) → taking f c ≡ Err r → c ≡ Err r
+taking-err f (Err refusal) r e = cc
+taking-err f (Ok a) r e = let z : ◌≡◌ {A = ℕ} 0 1 = cc in absurd (omega arith)

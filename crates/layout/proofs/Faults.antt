@@ -1,17 +1,18 @@
 -- Which faults a definition that may refuse can come to: those of its tests, and those of its steps.
 -- Assumes nothing.
+use Rattle.std.specs.Prelude.{Err, Ok}
 use Prim.Native.Nat.{ℕ}
 use mathlib.Core.Bool.{Bool, true, false}
 use mathlib.Core.Path.{◌≡◌, refl, subst}
 use native.Mathlib.Omega.{arith}
-use Rattle.layout.specs.Checked.{Checked, fault, good, check, then}
+use Rattle.layout.specs.Checked.{Checked, check, then}
 use Rattle.layout.specs.declared.refusal.Refusal.{Refusal}
 
 -- every fault is an allowed one
 pub record Only {A : Type 0} (Allowed : Refusal → Type 0) (c : Checked A) : Type 0 where
-  pub only : (r : Refusal) → c ≡ fault r → Allowed r
+  pub only : (r : Refusal) → c ≡ Err r → Allowed r
 
-pub only-value : {Allowed : Refusal → Type 0} {A : Type 0} (a : A) → Only Allowed (good a)
+pub only-value : {Allowed : Refusal → Type 0} {A : Type 0} (a : A) → Only Allowed (Ok a)
 only-value a = record { only = λ r e. let z : ◌≡◌ {A = ℕ} 0 1 = cc in absurd (omega arith) }
 
 pub only-test :
@@ -29,5 +30,5 @@ pub only_step :
     ((a : A) → Only Allowed (next a)) →
     Only Allowed (then c next)
 unfolding then
-only_step {Allowed} (fault r) next h k = record { only = λ q e. let same : r ≡ q = cc in subst Allowed same (h.only r refl) }
-only_step (good a) next h k = k a
+only_step {Allowed} (Err r) next h k = record { only = λ q e. let same : r ≡ q = cc in subst Allowed same (h.only r refl) }
+only_step (Ok a) next h k = k a

@@ -1,11 +1,9 @@
 -- The numbers of section kinds and of compression, as DxilContainer.h gives them; and which kinds are known.
-use Rattle.std.specs.Prelude.{ℕ, zero, suc}
+use Rattle.std.specs.Prelude.{ℕ, zero, suc, Option, None, Some}
 use Rattle.layout.specs.declared.section_type.SourceInfoSectionType.{SourceInfoSectionType}
 use Rattle.layout.specs.declared.section_type.SourceInfoSectionType.TheVariants.{SourceContents, SourceNames, Arguments, Unknown}
 use Rattle.layout.specs.declared.compression.SourceCompression.{SourceCompression}
-use Rattle.layout.specs.declared.compression.SourceCompression.TheVariants.{None, Zlib}
-use Rattle.layout.specs.declared.compression.MaybeCompression.{MaybeCompression}
-use Rattle.layout.specs.declared.compression.MaybeCompression.TheVariants as maybe
+use Rattle.layout.specs.declared.compression.SourceCompression.TheVariants as stored
 
 -- the kind that a number stands for
 abbrev pub section_type : ℕ → SourceInfoSectionType
@@ -29,17 +27,17 @@ known Arguments = 1
 known (Unknown n) = 0
 
 -- the compression that a number stands for, if it stands for one
-abbrev pub compression : ℕ → MaybeCompression
-compression zero = maybe.Known None
-compression (suc zero) = maybe.Known Zlib
-compression (suc (suc n)) = maybe.Unknown
+abbrev pub compression : ℕ → Option SourceCompression
+compression zero = Some stored.None
+compression (suc zero) = Some stored.Zlib
+compression (suc (suc n)) = None
 
 -- the compression of a number that was checked: what is not plain is packed
 abbrev pub checked_compression : ℕ → SourceCompression
-checked_compression zero = None
-checked_compression (suc n) = Zlib
+checked_compression zero = stored.None
+checked_compression (suc n) = stored.Zlib
 
 -- the number of a compression
 abbrev pub compression_number : SourceCompression → ℕ
-compression_number None = 0
-compression_number Zlib = 1
+compression_number stored.None = 0
+compression_number stored.Zlib = 1

@@ -1,12 +1,10 @@
 -- What the layout's definitions promise of each other. Each is proved under its name in proofs/Promises.antt.
-use Rattle.std.specs.Prelude.{ℕ, ◌≡◌}
+use Rattle.std.specs.Prelude.{ℕ, ◌≡◌, Some}
 use Rattle.layout.specs.declared.section_type.SourceInfoSectionType.{SourceInfoSectionType}
 use Rattle.layout.specs.declared.compression.SourceCompression.{SourceCompression}
-use Rattle.layout.specs.declared.compression.MaybeCompression.TheVariants.{Known}
 use Rattle.layout.specs.declared.refusal.Refusal.{Refusal}
-use Rattle.layout.specs.declared.refusal.Answer.{Answer}
 use Rattle.layout.specs.Kinds.{section_type, kind_number, compression, checked_compression, compression_number}
-use Rattle.layout.specs.Refusals.{refusal_number, refusal_second, answer_number, answer_second}
+use Rattle.layout.specs.Refusals.{refusal_number, refusal_second, answer_number, answer_second, Answer}
 
 -- a number is that of the kind that it stands for
 abbrev pub KindHasNumber : Type 0
@@ -18,7 +16,7 @@ NumberHasKind = (t : SourceInfoSectionType) (n : ℕ) → t ≡ section_type n �
 
 -- a compression's number stands for it, and where it was checked it is told without a test
 abbrev pub NumberHasCompression : Type 0
-NumberHasCompression = (c : SourceCompression) → (compression (compression_number c) ≡ Known c) × (checked_compression (compression_number c) ≡ c)
+NumberHasCompression = (c : SourceCompression) → (compression (compression_number c) ≡ Some c) × (checked_compression (compression_number c) ≡ c)
 
 -- an answer's two numbers tell it from every other answer
 abbrev pub NumbersTellAnswers : Type 0

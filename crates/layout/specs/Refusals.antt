@@ -1,9 +1,8 @@
 -- Document 01's number and second number for every case of an answer, with those that the requests of document 02 add.
-use Rattle.std.specs.Prelude.{ℕ}
+use Rattle.std.specs.Prelude.{ℕ, Ok, Err}
+use Rattle.layout.specs.Checked.{Checked}
 use Rattle.layout.specs.declared.refusal.Refusal.{Refusal}
 use Rattle.layout.specs.declared.refusal.Refusal.TheVariants.{Oversize, Ragged, MainHeader, Frame, Flag, Short, BodySize, Padding, EntrySize, OpenText, NotUtf8, InnerNul, Leftover, Compression, Unequal, NoRows, BadRow, WontFit, NoRoom, BadLine}
-use Rattle.layout.specs.declared.refusal.Answer.{Answer}
-use Rattle.layout.specs.declared.refusal.Answer.TheVariants.{Accepted, Refused}
 
 abbrev pub refusal_number : Refusal → ℕ
 refusal_number Oversize = 1
@@ -50,11 +49,15 @@ refusal_second WontFit = 0
 refusal_second (NoRoom bytes) = bytes
 refusal_second (BadLine line) = line
 
+-- how many rows or bytes a call stored, or why it is refused
+abbrev pub Answer : Type 0
+Answer = Checked ℕ
+
 -- an accepted call has number 0, and its second number is how many rows or bytes were stored
 abbrev pub answer_number : Answer → ℕ
-answer_number (Accepted stored) = 0
-answer_number (Refused refusal) = refusal_number refusal
+answer_number (Ok stored) = 0
+answer_number (Err refusal) = refusal_number refusal
 
 abbrev pub answer_second : Answer → ℕ
-answer_second (Accepted stored) = stored
-answer_second (Refused refusal) = refusal_second refusal
+answer_second (Ok stored) = stored
+answer_second (Err refusal) = refusal_second refusal

@@ -10,21 +10,16 @@ pub enum SourceCompression {
     Zlib,
 }
 
-// What a number on the wire says.
-#[derive(Clone, Copy)]
-pub enum MaybeCompression {
-    Known(SourceCompression),
-    Unknown,
-}
-
+// The conversions are named as those of the section type.
 impl SourceCompression {
-    pub fn from_u16(value: u16) -> MaybeCompression
+    // What a number on the wire says, if it says one.
+    pub fn from_u16(value: u16) -> Option<Self>
         ensures { result ≡ compression value }
     {
         match value {
-            0 => MaybeCompression::Known(SourceCompression::None),
-            1 => MaybeCompression::Known(SourceCompression::Zlib),
-            _ => MaybeCompression::Unknown,
+            0 => Some(SourceCompression::None),
+            1 => Some(SourceCompression::Zlib),
+            _ => None,
         }
     }
 

@@ -13,8 +13,8 @@ mod text_check;
 // The most bytes that a payload holds: an attachment's limit.
 pub const PAYLOAD_LIMIT: usize = 26_214_400;
 
-pub use compression::{MaybeCompression, SourceCompression};
-pub use refusal::{Answer, Refusal};
+pub use compression::SourceCompression;
+pub use refusal::{Answer, Refusal, answer_number, answer_second};
 pub use section_type::SourceInfoSectionType;
 pub use text::{bytes_of, part_of, text_of};
-pub use text_check::{Check, check_text, check_whole};
+pub use text_check::{check_text, check_whole};

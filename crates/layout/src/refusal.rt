@@ -47,15 +47,11 @@ pub enum Refusal {
     BadLine(u32),
 }
 
-// What a call answers.
-#[derive(Clone, Copy)]
-pub enum Answer {
-    // How many rows or bytes were stored.
-    Accepted(u32),
-    Refused(Refusal),
-}
+// What a call answers: how many rows or bytes were stored, or why it is refused.
+pub type Answer = Result<u32, Refusal>;
 
 impl Refusal {
+    // The numbers stand here one by one, as in the definition that document 01 asks for.
     pub fn number(self) -> u32
         ensures { result ≡ refusal_number self }
     {
@@ -96,24 +92,22 @@ impl Refusal {
     }
 }
 
-impl Answer {
-    // 0 for an accepted call, else the refusal's number.
-    pub fn number(self) -> u32
-        ensures { result ≡ answer_number self }
-    {
-        match self {
-            Answer::Accepted(_) => 0,
-            Answer::Refused(refusal) => refusal.number(),
-        }
+// 0 for an accepted call, else the refusal's number.
+pub fn answer_number(answer: Answer) -> u32
+    ensures { result ≡ answer_number answer }
+{
+    match answer {
+        Ok(_) => 0,
+        Err(refusal) => refusal.number(),
     }
+}
 
-    // The rows or bytes stored, or the refusal's second number.
-    pub fn second(self) -> u32
-        ensures { result ≡ answer_second self }
-    {
-        match self {
-            Answer::Accepted(stored) => stored,
-            Answer::Refused(refusal) => refusal.second(),
-        }
+// The rows or bytes stored, or the refusal's second number.
+pub fn answer_second(answer: Answer) -> u32
+    ensures { result ≡ answer_second answer }
+{
+    match answer {
+        Ok(stored) => stored,
+        Err(refusal) => refusal.second(),
     }
 }

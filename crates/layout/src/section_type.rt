@@ -14,7 +14,8 @@ pub enum SourceInfoSectionType {
     Unknown(u16),
 }
 
-// Each header size is in bytes and counts the header alone, not what follows it.
+// Each header size is in bytes and counts the header alone, not what follows it. Sizes and conversions are associated
+// items, as document 01 names them, and not impls of `From`.
 impl SourceInfoSectionType {
     pub const MAIN_HEADER_SIZE: usize = 8;
 

@@ -38,12 +38,6 @@ pub fn text_of<'a>(
 pub fn part_of(bytes: &[u8], start: usize, count: usize) -> &[u8]
     ensures { result.now ≡ part bytes.now start count }
 {
-    if bytes.len() <= start {
-        return &bytes[..0];
-    }
-    if bytes.len() - start <= count {
-        return &bytes[start..];
-    }
-    let end = start + count;
-    &bytes[start..end]
+    let rest = bytes.get(start..).unwrap_or(&[]);
+    &rest[..count.min(rest.len())]
 }

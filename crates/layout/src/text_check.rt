@@ -1,17 +1,20 @@
 // What a text must be, wherever it stands: UTF-8, with no NUL inside.
 ghost use Rattle.std.specs.Prelude.{true, ◌≡◌, ℕ, ◌<◌, length, get_or};
-ghost use Rattle.layout.specs.TextCheck.{check_whole, check_text, verdict};
+ghost use Rattle.layout.specs.TextCheck.{check_whole, check_text};
+ghost use Rattle.layout.specs.declared.refusal.Refusal.TheVariants.{NotUtf8};
 
 use crate::refusal::Refusal;
 use crate::text::part_of;
-use utf8::Utf8;
+use utf8::Utf8Error;
 use wire::TextLength;
 
-// What a check answers that has nothing to give.
-#[derive(Clone, Copy)]
-pub enum Check {
-    Passed,
-    Refused(Refusal),
+// A text that is ill formed anywhere is refused, and where does not matter.
+impl From<Utf8Error> for Refusal {
+    ghost from_gives = { λ _ refusal. refusal ≡ NotUtf8 };
+
+    fn from(_error: Utf8Error) -> Refusal {
+        Refusal::NotUtf8
+    }
 }
 
 // Up to this length a text is held to be plain at first. A longer one may well have other characters, and
@@ -24,45 +27,34 @@ fn is_plain(text: &[u8]) -> bool
     ensures { (k : ℕ) → k < length text.now → result ≡ true → (0 < get_or text.now k 0) × (get_or text.now k 0 < 0x80) }
 {
     let mut plain = true;
-    let mut i = 0;
-    while i < text.len() {
-        let byte = text[i];
-        if byte == 0 {
-            plain = false;
-        }
-        if byte >= 0x80 {
-            plain = false;
-        }
-        i += 1;
+    for byte in text {
+        plain = plain & (*byte != 0) & (*byte < 0x80);
     }
     plain
 }
 
 // A whole text. Of a plain one a single look at each byte tells that it passes; any other is gone through twice,
 // for its characters and for a NUL.
-pub fn check_whole(text: &[u8]) -> Check
-    ensures { result ≡ verdict (check_whole text.now) }
+pub fn check_whole(text: &[u8]) -> Result<(), Refusal>
+    ensures { result ≡ check_whole text.now }
 {
     if text.len() < SHORT {
         if is_plain(text) {
-            return Check::Passed;
+            return Ok(());
         }
     }
-    match validate::validate(text) {
-        Utf8::IllFormed(_) => Check::Refused(Refusal::NotUtf8),
-        Utf8::WellFormed => {
-            if find::find_nul(text) == text.len() {
-                Check::Passed
-            } else {
-                Check::Refused(Refusal::InnerNul)
-            }
-        }
+    validate::validate(text)?;
+    if find::find_nul(text) == text.len() {
+        Ok(())
+    } else {
+        Err(Refusal::InnerNul)
     }
 }
 
 // The text from `start` on.
-pub fn check_text(bytes: &[u8], start: usize, text: TextLength) -> Check
-    ensures { result ≡ verdict (check_text bytes.now start text.0) }
+#[tactic(auto, unfolding(crate::specs::TextCheck::check_text))]
+pub fn check_text(bytes: &[u8], start: usize, text: TextLength) -> Result<(), Refusal>
+    ensures { result ≡ check_text bytes.now start text.0 }
 {
     check_whole(part_of(bytes, start, text.0 as usize))
 }

@@ -1,17 +1,15 @@
 -- The laws of the fields of a line, from one tab to the next; and of words, a byte at a time.
 -- Assumes nothing.
-use Prim.Native.Nat.{ℕ, zero, suc, ◌+◌, ◌-◌, ◌≤◌, ◌<◌}
-use mathlib.Core.Bool.{Bool, true, false, and-false}
+use Prim.Native.Nat.{ℕ, zero, suc, ◌+◌, ◌-◌, ◌<◌}
+use mathlib.Core.Bool.{true, false}
 use mathlib.Core.List.{List, [], ◌∷◌}
-use mathlib.Core.Path.{◌≡◌, refl, sym, ap}
-use native.Mathlib.Numerals.{add-one}
+use mathlib.Core.Path.{◌≡◌, refl, ap}
 use native.Mathlib.Omega.{arith}
-use borrow.Author.Tests.{eq-eqb, ne_eqb, eqb-true, eqb-false}
-use lib.Dec.{eqb}
-use lib.ListN.{length, get_or, drop, drop_of_length-le}
-use lib.Seq.{drop-cons}
+use Rattle.std.specs.Str.{bytes_eq}
+use lib.ListN.{length, get_or, drop}
 use Rattle.find.specs.Find.{until, is_any}
 use Rattle.table.specs.declared.tag.Tag.{Tag}
+use Rattle.table.specs.declared.tag.Tag.TheVariants.{None}
 use Rattle.sheet.specs.Fields.{tab}
 use Rattle.sheet.specs.Lines.{word, split, same, tag_among}
 use Rattle.sheet.proofs.PartsFound.{last-part, next-part}
@@ -36,45 +34,25 @@ module _ (s : List ℕ) (at end : ℕ) (is : end ≡ at + until (is_any tab tab 
   pub count-last : end ≡ length s → length (split tab (drop at s)).rest ≡ 0
   count-last e = ap length (last-part tab s at end is e)
 
-  -- where only the fields from the place on are not counted yet
-  pub count-done : end ≤ length s → (total count : ℕ) → total ≡ count + length (split tab (drop at s)).rest → eqb end (length s) ≡ eqb total count
-  count-done h total count e = go (eqb end (length s)) refl
-    where
-      go : (last : Bool) → eqb end (length s) ≡ last → last ≡ eqb total count
-      go true q =
-          let none = count-last (eqb-true end (length s) q) in
-          sym (eq-eqb total count (omega arith))
-      go false q =
-          let some = count-tab (let l = eqb-false end (length s) q in omega arith) in
-          sym (ne_eqb total count (λ z. omega arith))
-
 -- ---- words
 
-pub other-lengths : (s t : List ℕ) → (length s ≡ length t → ⊥) → same s t ≡ false
+-- `same` is what `==` on slices says
+pub same_is : (s t : List ℕ) → same s t ≡ bytes_eq s t
 unfolding same
-other-lengths [] [] n = absurd (n refl)
-other-lengths [] (b ∷ t) n = refl
-other-lengths (a ∷ s) [] n = refl
-other-lengths (a ∷ s) (b ∷ t) n = rw (other-lengths s t (λ e. n (ap suc e)), and-false)
+same_is [] [] = refl
+same_is [] (b ∷ t) = refl
+same_is (a ∷ s) [] = refl
+same_is (a ∷ s) (b ∷ t) = rw (same_is s t)
 
-module _ (s t : List ℕ) (i : ℕ) (h : i < length s) (g : i < length t) where
-  pub same_step : get_or s i 0 ≡ get_or t i 0 → same (drop i s) (drop i t) ≡ same (drop (i + 1) s) (drop (i + 1) t)
-  unfolding same
-  same_step e = rw (add-one, drop-cons s i 0 h, drop-cons t i 0 g, eq-eqb (get_or s i 0) (get_or t i 0) e)
+-- the tag that has a word, tried one by one
+pub word_found : (t : Tag) (ts : List Tag) (w : List ℕ) {l : List ℕ} → true ≡ bytes_eq w l → l ≡ word t → t ≡ tag_among (t ∷ ts) w
+unfolding tag_among
+word_found t ts w e is = rw (same_is, ← is, ← e)
 
-  pub same_stop : (get_or s i 0 ≡ get_or t i 0 → ⊥) → same (drop i s) (drop i t) ≡ false
-  unfolding same
-  same_stop n = rw (drop-cons s i 0 h, drop-cons t i 0 g, ne_eqb (get_or s i 0) (get_or t i 0) n)
+pub word_passed : (t u : Tag) (ts : List Tag) (w : List ℕ) {l : List ℕ} → false ≡ bytes_eq w l → l ≡ word t → u ≡ tag_among ts w → u ≡ tag_among (t ∷ ts) w
+unfolding tag_among
+word_passed t u ts w e is h = rw (same_is, ← is, ← e) h
 
-pub same_end : (s t : List ℕ) (i : ℕ) → length s ≤ i → length t ≤ i → same (drop i s) (drop i t) ≡ true
-unfolding same
-same_end s t i h g = rw (drop_of_length-le s h, drop_of_length-le t g)
-
-module _ (t : Tag) (ts : List Tag) (w : List ℕ) where
-  pub word-is : same w (word t) ≡ true → tag_among (t ∷ ts) w ≡ t
-  unfolding tag_among
-  word-is e = rw e
-
-  pub word-not : same w (word t) ≡ false → tag_among (t ∷ ts) w ≡ tag_among ts w
-  unfolding tag_among
-  word-not e = rw e
+pub word_unknown : (w : List ℕ) → None ≡ tag_among [] w
+unfolding tag_among
+word_unknown w = refl

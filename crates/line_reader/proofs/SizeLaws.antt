@@ -1,5 +1,7 @@
 -- The laws of the sizes of fields: of bytes a digit at a time, of a text an escape or a run at a time.
 -- Assumes nothing.
+use Rattle.std.specs.Prelude.{None, Some}
+use Rattle.std.specs.Bool.{then_some}
 use Prim.Native.Nat.{ℕ, zero, suc, ◌+◌, ◌-◌, ◌/◌, ◌%◌, ◌≤◌, ◌<◌}
 use mathlib.Core.Bool.{Bool, true, false, ◌&&◌, and-true}
 use mathlib.Core.List.{List, [], ◌∷◌}
@@ -16,8 +18,7 @@ use Rattle.find.specs.Find.{until, is_any}
 use Rattle.find.proofs.FindLaws.{any-one, until-found, until-more, until-step}
 use Rattle.sheet.specs.Fields.{backslash, all, is_hex_digit, is_hex_pairs, bytes_of_pairs, is_escape, is_escaped, unescape}
 use Rattle.sheet.proofs.Escapes.{plain-is, plain-means, escape-is, escape-means}
-use Rattle.line_reader.specs.Sizes.{text_told}
-use Rattle.line_reader.specs.declared.text.FieldSize.TheVariants.{Size, Malformed}
+use Rattle.line_reader.specs.Sizes.{size_told, bytes_told, text_told}
 
 -- ---- bytes
 
@@ -51,10 +52,20 @@ unfolding all
 digit-more true s i h = rw (add-one, drop-cons s i 0 h)
 digit-more false s i h = refl
 
-pub digits-done :
-    (good : Bool) (f : List ℕ) (i : ℕ) → length f ≤ i → (good && all is_hex_digit (drop i f)) ≡ is_hex_pairs f → is_hex_pairs f ≡ good
+-- where all are tested
+pub bytes-sized :
+    (good : Bool) (f : List ℕ) (i : ℕ) →
+    length f ≤ i →
+    (good && all is_hex_digit (drop i f)) ≡ is_hex_pairs f →
+    then_some good (length f / 2) ≡ bytes_told f
 unfolding all
-digits-done good f i h e = sym e ∙ rw (drop_of_length-le f h, and-true)
+bytes-sized good f i h e =
+    let is : is_hex_pairs f ≡ good = sym e ∙ rw (drop_of_length-le f h, and-true) in
+    rw (is, bytes-length f) (go good)
+  where
+    go : (good : Bool) → then_some good (length f / 2) ≡ size_told good (length f / 2)
+    go true = refl
+    go false = refl
 
 -- ---- a text
 
@@ -91,7 +102,7 @@ text-plain n s at end h plain is =
     text-run n (end - at) (drop at s) (omega (arith, until-step slash s at h none)) ∙
     ap (text_told (n + (end - at))) (drop-drop (end - at) at s ∙ ap (λ (k : ℕ). drop k s) past)
 
-pub text-done : (n : ℕ) (s : List ℕ) (at : ℕ) → length s ≤ at → text_told n (drop at s) ≡ Size n
+pub text-done : (n : ℕ) (s : List ℕ) (at : ℕ) → length s ≤ at → text_told n (drop at s) ≡ Some n
 unfolding is_escaped unescape
 text-done n s at h = rw (drop_of_length-le s h, add-zero)
 
@@ -119,7 +130,7 @@ module _ (n : ℕ) (s : List ℕ) (i : ℕ) (h : i < length s) (is : get_or s i 
       let one : n + suc (length (unescape (drop (i + 2) s))) ≡ n + 1 + length (unescape (drop (i + 2) s)) = omega arith in
       rw (two (escape-inside s (i + 1) e), escape-is, escape-means, e, one)
 
-  pub text-bad : is_escape (get_or s (i + 1) 0) ≡ false → text_told n (drop i s) ≡ Malformed
+  pub text-bad : is_escape (get_or s (i + 1) 0) ≡ false → text_told n (drop i s) ≡ None
   unfolding is_escaped
   text-bad e =
       elim (dec_le (length s) (i + 1)) [

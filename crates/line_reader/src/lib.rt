@@ -8,8 +8,9 @@ mod bytes;
 mod fields;
 mod line;
 mod number;
+mod split_line;
 mod text;
 
 pub use fields::{field, tag_of};
-pub use line::{LineCheck, LineSizes, check_line};
-pub use number::{MaybeNumber, read_number};
+pub use line::{LineSizes, check_line};
+pub use number::read_number;

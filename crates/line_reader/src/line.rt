@@ -1,18 +1,16 @@
 // The check of a line: first its form, its place and the rule of unknown sections, then its texts.
 ghost use Rattle.std.specs.Prelude.{◌≡◌, ◌+◌};
-ghost use Rattle.layout.specs.TextCheck.{verdict};
 ghost use Rattle.layout.specs.declared.refusal.Refusal.TheVariants.{BadLine};
 ghost use Rattle.format.specs.Records.{number_count, text_count, is_placed};
 ghost use Rattle.sheet.specs.Fields.{tab};
 ghost use Rattle.sheet.specs.Lines.{split, check_all, read_line};
-ghost use Rattle.line_reader.specs.Ends.{ends_of};
-ghost use Rattle.line_reader.specs.LineTold.{is_between, sized_told, line_sizes, text_fields, line_told};
+ghost use Rattle.line_reader.specs.LineTold.{line_sizes, text_fields, line_told};
 
 use crate::bytes::bytes_size;
-use crate::fields::{Ends, ends_of, field_by, has_fields_by, tag_by};
-use crate::number::{MaybeNumber, read_number};
-use crate::text::{FieldSize, text_size};
-use layout::{Check, Refusal, check_whole};
+use crate::number::read_number;
+use crate::split_line::SplitLine;
+use crate::text::text_size;
+use layout::{Refusal, check_whole};
 use table::Tag;
 
 // What a line holds: its tag, and how many bytes its bytes or texts have; 0 where there are none.
@@ -23,34 +21,21 @@ pub struct LineSizes {
     pub second: usize,
 }
 
-#[derive(Clone, Copy)]
-pub enum LineCheck {
-    Line(LineSizes),
-    Refused(Refusal),
-}
-
-// The largest number of a field.
-const LARGEST: u32 = 0xFFFF_FFFF;
-
 // A line after a line of the previous tag. The number is its own among the lines.
-pub fn check_line(line: &[u8], previous: Tag, number: u32) -> LineCheck
+pub fn check_line(line: &[u8], previous: Tag, number: u32) -> Result<LineSizes, Refusal>
     ensures { result ≡ line_told (read_line (BadLine number) previous line.now) }
 {
-    let ends = ends_of(line);
-    let tag = tag_by(line, ends.word);
+    let line = SplitLine::new(line);
+    let tag = line.tag();
     if !is_placed(previous, tag) {
-        return LineCheck::Refused(Refusal::BadLine(number));
+        return Err(Refusal::BadLine(number));
     }
-    if !has_fields_by(line, ends, field_count(tag)) {
-        return LineCheck::Refused(Refusal::BadLine(number));
+    if !line.has_fields(field_count(tag)) {
+        return Err(Refusal::BadLine(number));
     }
-    match measure(line, ends, tag, number) {
-        LineCheck::Refused(refusal) => LineCheck::Refused(refusal),
-        LineCheck::Line(sizes) => match check_texts(line, ends, tag) {
-            Check::Refused(refusal) => LineCheck::Refused(refusal),
-            Check::Passed => LineCheck::Line(sizes),
-        },
-    }
+    let sizes = measure(&line, tag).ok_or(Refusal::BadLine(number))?;
+    check_texts(&line, tag)?;
+    Ok(sizes)
 }
 
 // Whether a line of a tag may stand after one of the previous tag.
@@ -79,97 +64,56 @@ fn field_count(tag: Tag) -> usize
 
 // The sizes of a line of a tag by its fields, where each is one.
 #[tactic(auto, unfolding(crate::specs::LineTold::line_sizes))]
-fn measure(line: &[u8], ends: Ends, tag: Tag, number: u32) -> LineCheck
-    requires { ends ≡ ends_of line.now }
-    ensures { result ≡ line_sizes (BadLine number) tag (split tab line.now).rest }
+fn measure(line: &SplitLine<'_>, tag: Tag) -> Option<LineSizes>
+    ensures { result ≡ line_sizes tag (split tab line.now.line.now).rest }
 {
-    let none = FieldSize::Size(0);
-    match tag {
+    let (first, second) = match tag {
         Tag::PlainContents => {
-            sized(
-                tag,
-                number,
-                is_between(field_by(line, ends, 0), 0, LARGEST),
-                none,
-                none,
-            )
+            read_number(line.field(0))?;
+            (0, 0)
         }
         Tag::PackedContents => {
-            let numbers = is_between(field_by(line, ends, 0), 0, LARGEST)
-                & is_between(field_by(line, ends, 1), 0, LARGEST)
-                & is_between(field_by(line, ends, 2), 0, LARGEST);
-            sized(
-                tag,
-                number,
-                numbers,
-                bytes_size(field_by(line, ends, 3)),
-                none,
-            )
+            read_number(line.field(0))?;
+            read_number(line.field(1))?;
+            read_number(line.field(2))?;
+            (bytes_size(line.field(3))?, 0)
         }
-        Tag::Names => sized(tag, number, true, none, none),
-        Tag::Arguments => sized(tag, number, true, none, none),
+        Tag::Names => (0, 0),
+        Tag::Arguments => (0, 0),
         Tag::Unknown => {
-            let bytes = field_by(line, ends, 1);
-            let ruled = is_between(field_by(line, ends, 0), 3, 65535) & (bytes.len() / 2 % 4 == 0);
-            sized(tag, number, ruled, bytes_size(bytes), none)
+            let kind = read_number(line.field(0))?;
+            let size = bytes_size(line.field(1))?;
+            let ruled = (3 <= kind) & (kind <= 65535) & (size % 4 == 0);
+            ruled.then_some((size, 0))?
         }
-        Tag::Content => sized(tag, number, true, text_size(field_by(line, ends, 0)), none),
+        Tag::Content => (text_size(line.field(0))?, 0),
         Tag::Name => {
-            let good = is_between(field_by(line, ends, 0), 0, LARGEST);
-            sized(tag, number, good, text_size(field_by(line, ends, 1)), none)
+            read_number(line.field(0))?;
+            (text_size(line.field(1))?, 0)
         }
-        Tag::Pair => {
-            let first = text_size(field_by(line, ends, 0));
-            sized(tag, number, true, first, text_size(field_by(line, ends, 1)))
-        }
-        Tag::None => sized(tag, number, true, none, none),
-    }
-}
-
-// A line of a tag with its sizes, where a test held and each field has one.
-fn sized(tag: Tag, number: u32, good: bool, first: FieldSize, second: FieldSize) -> LineCheck
-    ensures { result ≡ sized_told (BadLine number) tag good first second }
-{
-    let refused = LineCheck::Refused(Refusal::BadLine(number));
-    if !good {
-        return refused;
-    }
-    let FieldSize::Size(first) = first else {
-        return refused;
+        Tag::Pair => (text_size(line.field(0))?, text_size(line.field(1))?),
+        Tag::None => (0, 0),
     };
-    let FieldSize::Size(second) = second else {
-        return refused;
-    };
-    LineCheck::Line(LineSizes { tag, first, second })
-}
-
-// Whether a field is a number from least to most.
-fn is_between(field: &[u8], least: u32, most: u32) -> bool
-    ensures { result ≡ is_between least most field.now }
-{
-    match read_number(field) {
-        MaybeNumber::Number(n) => (least <= n) & (n <= most),
-        MaybeNumber::Malformed => false,
-    }
+    Some(LineSizes { tag, first, second })
 }
 
 // The texts of a line of a tag, in order. Escapes and what they stand for are ASCII, so that each is checked as it stands.
-fn check_texts(line: &[u8], ends: Ends, tag: Tag) -> Check
-    requires { ends ≡ ends_of line.now }
-    ensures { result ≡ verdict (check_all (text_fields tag (split tab line.now).rest)) }
+#[tactic(auto, unfolding(crate::specs::LineTold::text_fields, sheet::specs::Lines::check_all, layout::specs::Checked::then))]
+fn check_texts(line: &SplitLine<'_>, tag: Tag) -> Result<(), Refusal>
+    ensures { result ≡ check_all (text_fields tag (split tab line.now.line.now).rest) }
 {
     match tag {
-        Tag::Content => check_whole(field_by(line, ends, 0)),
-        Tag::Name => check_whole(field_by(line, ends, 1)),
-        Tag::Pair => match check_whole(field_by(line, ends, 0)) {
-            Check::Refused(refusal) => Check::Refused(refusal),
-            Check::Passed => check_whole(field_by(line, ends, 1)),
-        },
-        Tag::PlainContents => Check::Passed,
-        Tag::PackedContents => Check::Passed,
-        Tag::Names => Check::Passed,
-        Tag::Arguments => Check::Passed,
-        Tag::Unknown => Check::Passed,
-        Tag::None => Check::Passed,
+        Tag::Content => check_whole(line.field(0)),
+        Tag::Name => check_whole(line.field(1)),
+        Tag::Pair => {
+            check_whole(line.field(0))?;
+            check_whole(line.field(1))
+        }
+        Tag::PlainContents => Ok(()),
+        Tag::PackedContents => Ok(()),
+        Tag::Names => Ok(()),
+        Tag::Arguments => Ok(()),
+        Tag::Unknown => Ok(()),
+        Tag::None => Ok(()),
     }
 }

@@ -2,44 +2,37 @@
 ghost use Rattle.std.specs.Prelude.{◌≡◌, ◌<◌};
 ghost use Rattle.line_reader.specs.Numbers.{number_told, spelt_told};
 
-#[derive(Clone, Copy)]
-pub enum MaybeNumber {
-    Number(u32),
-    Malformed,
-}
+// The largest number of a field.
+const LARGEST: u64 = 0xFFFF_FFFF;
 
-// The number of a field.
-pub fn read_number(field: &[u8]) -> MaybeNumber
+// The number of a field, if it is one.
+pub fn read_number(field: &[u8]) -> Option<u32>
     ensures { result ≡ number_told field.now }
 {
-    if field.len() == 0 {
-        return MaybeNumber::Malformed;
+    if field.is_empty() {
+        return None;
     }
-    if field.len() > 1 {
-        if field[0] <= b'0' {
-            return MaybeNumber::Malformed;
-        }
+    let leading_zero = field[0] <= b'0';
+    if leading_zero && field.len() > 1 {
+        return None;
     }
     read_digits(field)
 }
 
 // The number that digits spell. It stops at what is no digit, and where the number is too large, which more digits do
 // not change.
-fn read_digits(field: &[u8]) -> MaybeNumber
+fn read_digits(field: &[u8]) -> Option<u32>
     ensures { result ≡ spelt_told 0 field.now }
 {
     let mut n: u64 = 0;
-    let mut i = 0;
-    while i < field.len() {
-        let byte = field[i];
-        if (byte < b'0') | (byte > b'9') {
-            return MaybeNumber::Malformed;
+    for byte in field {
+        if !byte.is_ascii_digit() {
+            return None;
         }
-        n = 10 * n + (byte - b'0') as u64;
-        if n > 0xFFFF_FFFF {
-            return MaybeNumber::Malformed;
+        n = 10 * n + (*byte - b'0') as u64;
+        if n > LARGEST {
+            return None;
         }
-        i += 1;
     }
-    MaybeNumber::Number(n as u32)
+    Some(n as u32)
 }

@@ -5,16 +5,9 @@ ghost use Rattle.line_reader.specs.Sizes.{text_told};
 
 use find::find_from;
 
-// How many bytes a field says.
-#[derive(Clone, Copy)]
-pub enum FieldSize {
-    Size(usize),
-    Malformed,
-}
-
 // How many bytes a text has with its escapes resolved. An escape is passed where it stands; bytes that stand for
 // themselves are counted in runs, up to the next backslash.
-pub fn text_size(field: &[u8]) -> FieldSize
+pub fn text_size(field: &[u8]) -> Option<usize>
     ensures { result ≡ text_told 0 field.now }
 {
     let mut size = 0;
@@ -22,7 +15,7 @@ pub fn text_size(field: &[u8]) -> FieldSize
     while at < field.len() {
         if field[at] == b'\\' {
             if !is_escape(field, at) {
-                return FieldSize::Malformed;
+                return None;
             }
             size += 1;
             at += 2;
@@ -32,7 +25,7 @@ pub fn text_size(field: &[u8]) -> FieldSize
             at = end;
         }
     }
-    FieldSize::Size(size)
+    Some(size)
 }
 
 // Whether what follows a place is there, and may follow a backslash.
@@ -40,9 +33,5 @@ fn is_escape(field: &[u8], at: usize) -> bool
     requires { at < length field.now }
     ensures { result ≡ is_escape (get_or field.now (at + 1) 0) }
 {
-    if at + 1 == field.len() {
-        return false;
-    }
-    let byte = field[at + 1];
-    (byte == b'\\') | (byte == b't') | (byte == b'n')
+    matches!(field.get(at + 1), Some(b'\\' | b't' | b'n'))
 }

@@ -1,5 +1,6 @@
 -- What a turn of the pass comes to: the line at a place is not closed, is at fault, or is counted; and nothing is left.
 -- Assumes nothing.
+use Rattle.std.specs.Prelude.{Err, Ok}
 use Prim.Native.Nat.{ℕ, ◌+◌, ◌-◌, ◌≤◌, ◌<◌}
 use mathlib.Core.List.{List}
 use mathlib.Core.Path.{◌≡◌, refl}
@@ -7,7 +8,9 @@ use native.Mathlib.Omega.{arith}
 use borrow.Author.Tests.{ne_eqb}
 use lib.ListN.{length, take, drop, length-drop, drop_of_length-le}
 use lib.Seq.{length-take-le}
-use Rattle.layout.specs.Checked.{Checked, fault, good, check}
+use Rattle.find.specs.Find.{is_any}
+use Rattle.find.proofs.FindLaws.{until-least}
+use Rattle.layout.specs.Checked.{Checked, check}
 use Rattle.layout.specs.declared.refusal.Refusal.{Refusal}
 use Rattle.layout.proofs.Checked.{after-fault, after-good}
 use Rattle.format.specs.Records.{Record, text}
@@ -18,7 +21,6 @@ use Rattle.sheet.proofs.PartsFound.{part_end_lem, last-part, next-part}
 use Rattle.sizes.specs.Measure.{finish}
 use Rattle.sizes.specs.declared.sizes.Sizes.{Sizes}
 use Rattle.line_reader.specs.LineTold.{line_told, sizes}
-use Rattle.line_reader.specs.declared.line.LineCheck.TheVariants.{Line, Refused}
 use Rattle.line_reader.specs.declared.line.LineSizes.{LineSizes}
 use Rattle.lines.specs.Measure.{line_end, measure_lines}
 use Rattle.lines.proofs.Measured.{counted}
@@ -33,18 +35,18 @@ module _ (s : List ℕ) where
     abbrev here : List ℕ
     here = take (end - at) (drop at s)
 
-    pub unclosed : at < length s → length s ≤ end → end ≤ length s → measure_from n m at ≡ fault (bad_line n)
+    pub unclosed : at < length s → length s ≤ end → measure_from n m at ≡ Err (bad_line n)
     unfolding measure_lines check
-    unclosed some h k =
-        let whole : end ≡ length s = omega arith in
+    unclosed some h =
+        let whole : end ≡ length s = omega (arith, until-least (is_any newline newline newline) (drop at s), length-drop at s) in
         let long : length here ≡ end - at = length-take-le (end - at) (drop at s) (omega (arith, length-drop at s)) in
         rw (last-part newline s at end is whole, ← part_end_lem newline s at end is, ne_eqb (length here) 0 (λ q. omega arith))
 
-    pub refused : end < length s → (q : Refusal) → read_line (bad_line n) m.previous here ≡ fault q → measure_from n m at ≡ fault q
+    pub refused : end < length s → (q : Refusal) → read_line (bad_line n) m.previous here ≡ Err q → measure_from n m at ≡ Err q
     unfolding measure_lines
     refused h q e = rw (next-part newline s at end is h, ← part_end_lem newline s at end is) (after-fault _ _ e)
 
-    pub read : end < length s → (r : Record) → read_line (bad_line n) m.previous here ≡ good r → measure_from n m at ≡ measure_from (n + 1) (counted m r) (end + 1)
+    pub read : end < length s → (r : Record) → read_line (bad_line n) m.previous here ≡ Ok r → measure_from n m at ≡ measure_from (n + 1) (counted m r) (end + 1)
     unfolding measure_lines
     read h r e = rw (next-part newline s at end is h, ← part_end_lem newline s at end is) (after-good _ _ e)
 
@@ -54,10 +56,10 @@ module _ (s : List ℕ) where
 
 -- ---- what the check of a line told
 
-pub told-refused : (c : Checked Record) (q : Refusal) → line_told c ≡ Refused q → c ≡ fault q
-told-refused (fault r) q e = cc
-told-refused (good r) q e = let z : ◌≡◌ {A = ℕ} 0 1 = cc in absurd (omega arith)
+pub told-refused : (c : Checked Record) (q : Refusal) → line_told c ≡ Err q → c ≡ Err q
+told-refused (Err r) q e = cc
+told-refused (Ok r) q e = let z : ◌≡◌ {A = ℕ} 0 1 = cc in absurd (omega arith)
 
-pub told_line : (c : Checked Record) (l : LineSizes) → line_told c ≡ Line l → (r : Record) × (c ≡ good r) × (l ≡ sizes r.tag (length (text 0 r)) (length (text 1 r)))
-told_line (fault r) l e = let z : ◌≡◌ {A = ℕ} 0 1 = cc in absurd (omega arith)
-told_line (good r) l e = (r, refl, cc)
+pub told_line : (c : Checked Record) (l : LineSizes) → line_told c ≡ Ok l → (r : Record) × (c ≡ Ok r) × (l ≡ sizes r.tag (length (text 0 r)) (length (text 1 r)))
+told_line (Err r) l e = let z : ◌≡◌ {A = ℕ} 0 1 = cc in absurd (omega arith)
+told_line (Ok r) l e = (r, refl, cc)

@@ -11,13 +11,9 @@ ghost use Rattle.sizes.specs.Measure.{sized};
 ghost use Rattle.lines.specs.Measure.{line_end};
 
 use layout::Refusal;
-use line_reader::LineCheck;
-use sizes::{Measured, Sizes};
+use sizes::Sizes;
 
 const NEWLINE: u8 = 10;
-
-// The largest number that a line is told by.
-const LAST: u32 = 0xFFFF_FFFF;
 
 // Where the line at a place ends: at the next newline, or at the sheet's end.
 pub fn line_end(sheet: &[u8], at: usize) -> usize
@@ -26,15 +22,9 @@ pub fn line_end(sheet: &[u8], at: usize) -> usize
     find::find_from(sheet, NEWLINE, at)
 }
 
-// The number of the next line; the last that 32 bits hold is that of all after it.
-fn next_number(number: u32) -> u32
-    ensures { result ≡ min (number + 1) 4294967295 }
-{
-    if number < LAST { number + 1 } else { LAST }
-}
-
-// The bytes of the payload that a sheet would be written as: how many, or the first fault.
-pub fn measure(sheet: &[u8]) -> Measured
+// The bytes of the payload that a sheet would be written as: how many, or the first fault. The place moves on past each
+// newline that is found.
+pub fn measure(sheet: &[u8]) -> Result<u32, Refusal>
     ensures { result ≡ sized (from_sheet sheet.now) }
 {
     let mut sizes = Sizes::new();
@@ -43,19 +33,12 @@ pub fn measure(sheet: &[u8]) -> Measured
     while at < sheet.len() {
         let end = line_end(sheet, at);
         if sheet.len() <= end {
-            return Measured::Refused(Refusal::BadLine(number));
+            return Err(Refusal::BadLine(number));
         }
-        let previous = sizes.previous;
-        match line_reader::check_line(&sheet[at..end], previous, number) {
-            LineCheck::Refused(refusal) => {
-                return Measured::Refused(refusal);
-            }
-            LineCheck::Line(line) => {
-                let tag = line.tag;
-                sizes = sizes.advance(tag, line.first, line.second);
-            }
-        }
-        number = next_number(number);
+        let line = line_reader::check_line(&sheet[at..end], sizes.previous, number)?;
+        sizes = sizes.advance(line.tag, line.first, line.second);
+        // the last number that 32 bits hold is that of all lines after it
+        number = number.saturating_add(1);
         at = end + 1;
     }
     sizes.finish()

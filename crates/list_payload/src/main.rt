@@ -3,6 +3,8 @@
 // The file stdin holds document 01's sample of 76 bytes: the name `a` with content size 5, then the pair `E`,
 // `main`. It was put together by hand from the layout; stdout has the three lines that document 01 prints for
 // it. tests/programs/run.sh runs the program on every other kind of input.
+//
+// show_card differs from it in one name: what is longer than a line they share (crate print).
 #![tactic(auto)]
 
 use std::io;

@@ -14,23 +14,18 @@ ghost use Rattle.std.specs.Prelude.{◌≡◌, length};
 ghost use Rattle.format.specs.Listing.{list_answer, list_output};
 
 use layout::{Answer, Refusal};
-use parse::Counted;
 
 // Lists a payload to a lent output, whole, or refuses it and leaves the output as it was.
 pub fn list(payload: &[u8], output: &mut [u8]) -> Answer
     ensures value { result ≡ list_answer payload.now (length output.old) }
     ensures output_after { output.new ≡ list_output payload.now output.old }
 {
-    match parse::parse_srci(payload) {
-        Counted::Refused(refusal) => Answer::Refused(refusal),
-        Counted::Rows(_) => {
-            let size = source_info::write_display(payload, &mut output[..0]);
-            let room = output.len();
-            if room < size as usize {
-                return Answer::Refused(Refusal::NoRoom(size));
-            }
-            source_info::write_display(payload, output);
-            Answer::Accepted(size)
-        }
+    parse::parse_srci(payload)?;
+    let size = source_info::write_display(payload, &mut output[..0]);
+    let room = output.len();
+    if room < size as usize {
+        return Err(Refusal::NoRoom(size));
     }
+    source_info::write_display(payload, output);
+    Ok(size)
 }

@@ -1,2 +1,1 @@
-pub mod Found
 pub mod Outcome

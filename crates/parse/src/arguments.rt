@@ -5,9 +5,7 @@ ghost use Rattle.format.specs.Parse.{pair_text, pair, pairs, parse_arguments, af
 ghost use Rattle.parse.specs.Outcome.{maybe_text, place_of, counted};
 
 use crate::framing::check_framed;
-use crate::outcome::{Counted, MaybePlace, MaybeText};
-use layout::{Check, Refusal, SourceInfoSectionType};
-use utf8::Utf8;
+use layout::{Refusal, SourceInfoSectionType};
 use wire::TextLength;
 
 const START: usize = SourceInfoSectionType::ARGS_START;
@@ -24,41 +22,36 @@ fn plain_end(payload: &[u8], at: usize, end: usize) -> usize
     ensures by_index { (k : ℕ) → k < result → at ≤ k → (0 < get_or payload.now k 0) × (get_or payload.now k 0 < 0x80) }
 {
     let near = if end - at < NEAR { end } else { at + NEAR };
-    let mut i = at;
-    while i < near {
+    for i in at..near {
         let byte = payload[i];
-        if byte == 0 {
+        if byte == 0 || byte >= 0x80 {
             return i;
         }
-        if byte >= 0x80 {
-            return i;
-        }
-        i += 1;
     }
-    i
+    near
 }
 
 // The text from a place on, which ends at the first NUL before `end`, whatever its length and characters.
 // It is gone through twice, in blocks.
-fn check_any_pair_text(payload: &[u8], at: usize, end: usize) -> MaybeText
+#[tactic(auto, unfolding(format::specs::Parse::pair_text, layout::specs::Checked::check, layout::specs::Checked::then))]
+fn check_any_pair_text(payload: &[u8], at: usize, end: usize) -> Result<TextLength, Refusal>
     requires at_le_end { (at ≤ end) × (end ≤ length payload.now) }
     requires payload_len_bound { length payload.now ≤ limit }
     ensures { result ≡ maybe_text (pair_text payload.now at end) }
 {
     let count = find::find_nul(&payload[at..end]);
     if count == end - at {
-        return MaybeText::Refused(Refusal::OpenText);
+        return Err(Refusal::OpenText);
     }
     let stop = at + count;
-    match validate::validate(&payload[at..stop]) {
-        Utf8::WellFormed => MaybeText::Text(TextLength(count as u32)),
-        Utf8::IllFormed(_) => MaybeText::Refused(Refusal::NotUtf8),
-    }
+    validate::validate(&payload[at..stop])?;
+    Ok(TextLength(count as u32))
 }
 
 // The same. Most texts of arguments are short and ASCII, or empty: the NUL of such a one is found, and its
 // bytes are seen to be well formed, in one go and without a call.
-fn check_pair_text(payload: &[u8], at: usize, end: usize) -> MaybeText
+#[tactic(auto, unfolding(format::specs::Parse::pair_text, layout::specs::Checked::check, layout::specs::Checked::then))]
+fn check_pair_text(payload: &[u8], at: usize, end: usize) -> Result<TextLength, Refusal>
     requires at_le_end { (at ≤ end) × (end ≤ length payload.now) }
     requires payload_len_bound { length payload.now ≤ limit }
     ensures { result ≡ maybe_text (pair_text payload.now at end) }
@@ -66,76 +59,59 @@ fn check_pair_text(payload: &[u8], at: usize, end: usize) -> MaybeText
     let stop = plain_end(payload, at, end);
     if stop < end {
         if payload[stop] == 0 {
-            return MaybeText::Text(TextLength((stop - at) as u32));
+            return Ok(TextLength((stop - at) as u32));
         }
     }
     check_any_pair_text(payload, at, end)
 }
 
 // The place after the pair at a place, both of whose texts end before `end`.
-fn check_pair(payload: &[u8], at: usize, end: usize) -> MaybePlace
+#[tactic(auto, unfolding(format::specs::Parse::pair, layout::specs::Checked::then))]
+fn check_pair(payload: &[u8], at: usize, end: usize) -> Result<usize, Refusal>
     requires at_le_end { (at ≤ end) × (end ≤ length payload.now) }
     requires payload_len_bound { length payload.now ≤ limit }
     ensures { result ≡ place_of after_pair (pair payload.now at end) }
 {
-    match check_pair_text(payload, at, end) {
-        MaybeText::Refused(refusal) => MaybePlace::Refused(refusal),
-        MaybeText::Text(name) => {
-            let start = at + name.wire_size().0;
-            match check_pair_text(payload, start, end) {
-                MaybeText::Refused(refusal) => MaybePlace::Refused(refusal),
-                MaybeText::Text(value) => MaybePlace::At(start + value.wire_size().0),
-            }
-        }
-    }
+    let name = check_pair_text(payload, at, end)?;
+    let start = at + name.wire_size().0;
+    let value = check_pair_text(payload, start, end)?;
+    Ok(start + value.wire_size().0)
 }
 
 // As many pairs as the count says, from `start` on, up to `end`.
-fn check_pairs(payload: &[u8], count: u32, start: usize, end: usize) -> Counted
+fn check_pairs(payload: &[u8], count: u32, start: usize, end: usize) -> Result<u32, Refusal>
     requires start_le_end { (start ≤ end) × (end ≤ length payload.now) }
     requires payload_len_bound { length payload.now ≤ limit }
     ensures { result ≡ counted (pairs count payload.now start end) }
 {
     let mut at = start;
-    let mut done: u32 = 0;
-    while done < count {
-        match check_pair(payload, at, end) {
-            MaybePlace::Refused(refusal) => {
-                return Counted::Refused(refusal);
-            }
-            MaybePlace::At(next) => {
-                at = next;
-            }
-        }
-        done += 1;
+    for done in 0..count {
+        at = check_pair(payload, at, end)?;
     }
     if at == end {
-        Counted::Rows(count)
+        Ok(count)
     } else {
-        Counted::Refused(Refusal::Leftover)
+        Err(Refusal::Leftover)
     }
 }
 
 // The arguments section of a size at a place.
-pub fn parse_arguments(payload: &[u8], at: usize, size: usize) -> Counted
+#[tactic(auto, unfolding(format::specs::Parse::parse_arguments, layout::specs::Checked::check, layout::specs::Checked::then))]
+pub fn parse_arguments(payload: &[u8], at: usize, size: usize) -> Result<u32, Refusal>
     requires size_in_bounds { at + size ≤ length payload.now }
     requires payload_len_bound { length payload.now ≤ limit }
     ensures { result ≡ counted (parse_arguments payload.now at size) }
 {
     if size < START {
-        return Counted::Refused(Refusal::Short);
+        return Err(Refusal::Short);
     }
     if wire::read_u32(payload, at + 8) != 0 {
-        return Counted::Refused(Refusal::Flag);
+        return Err(Refusal::Flag);
     }
     let bytes = wire::read_u32(payload, at + 12);
-    if let Check::Refused(refusal) = check_framed(payload, at, size, HEADERS, bytes) {
-        return Counted::Refused(refusal);
-    }
+    check_framed(payload, at, size, HEADERS, bytes)?;
     let start = at + START;
     let count = wire::read_u32(payload, at + 16);
-    match check_pairs(payload, count, start, start + bytes as usize) {
-        Counted::Refused(refusal) => Counted::Refused(refusal),
-        Counted::Rows(pairs) => Counted::Rows(1 + pairs),
-    }
+    let pairs = check_pairs(payload, count, start, start + bytes as usize)?;
+    Ok(1 + pairs)
 }

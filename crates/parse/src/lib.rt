@@ -10,8 +10,6 @@ mod contents;
 mod entries;
 mod framing;
 mod names;
-mod outcome;
 mod source_info;
 
-pub use outcome::Counted;
 pub use source_info::parse_srci;

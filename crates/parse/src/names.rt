@@ -6,8 +6,7 @@ ghost use Rattle.parse.specs.Outcome.{counted};
 
 use crate::entries::check_entries;
 use crate::framing::check_framed;
-use crate::outcome::Counted;
-use layout::{Check, Refusal, SourceInfoSectionType};
+use layout::{Refusal, SourceInfoSectionType};
 
 const START: usize = SourceInfoSectionType::NAMES_START;
 
@@ -16,25 +15,22 @@ const HEADERS: u32 = START as u32;
 const ENTRY_HEADER: u32 = SourceInfoSectionType::NAME_ENTRY_HEADER_SIZE as u32;
 
 // The names section of a size at a place.
-pub fn parse_names(payload: &[u8], at: usize, size: usize) -> Counted
+#[tactic(auto, unfolding(format::specs::Parse::parse_names, layout::specs::Checked::check, layout::specs::Checked::then))]
+pub fn parse_names(payload: &[u8], at: usize, size: usize) -> Result<u32, Refusal>
     requires size_in_bounds { at + size ≤ length payload.now }
     requires payload_len_bound { length payload.now ≤ limit }
     ensures { result ≡ counted (parse_names payload.now at size) }
 {
     if size < START {
-        return Counted::Refused(Refusal::Short);
+        return Err(Refusal::Short);
     }
     if wire::read_u32(payload, at + 8) != 0 {
-        return Counted::Refused(Refusal::Flag);
+        return Err(Refusal::Flag);
     }
     let bytes = wire::read_u16(payload, at + 16);
-    if let Check::Refused(refusal) = check_framed(payload, at, size, HEADERS, bytes as u32) {
-        return Counted::Refused(refusal);
-    }
+    check_framed(payload, at, size, HEADERS, bytes as u32)?;
     let start = at + START;
     let count = wire::read_u32(payload, at + 12);
-    match check_entries(payload, ENTRY_HEADER, count, start, start + bytes as usize) {
-        Counted::Refused(refusal) => Counted::Refused(refusal),
-        Counted::Rows(entries) => Counted::Rows(1 + entries),
-    }
+    let entries = check_entries(payload, ENTRY_HEADER, count, start, start + bytes as usize)?;
+    Ok(1 + entries)
 }

@@ -19,22 +19,25 @@ use std::io::Read;
 pub const MOST: usize = 65536;
 
 // The line of an input that is longer than a program reads. Answers its length.
+#[tactic(auto, unfolding(format::specs::Display::ascii))]
 fn print_longer(output: &mut [u8]) -> usize
     ensures value { result ≡ length longer_line }
     ensures output_after { output.new ≡ sets output.old 0 longer_line }
 {
-    wire::write_bytes(output, 0, b"// longer than 65536 bytes\n");
-    27
+    let line = b"// longer than 65536 bytes\n";
+    wire::write_bytes(output, 0, line);
+    line.len()
 }
 
 // What is printed of an answer, over what its call left. Answers how many bytes that is.
+#[tactic(auto, unfolding(format::specs::Print::told, format::specs::Print::told_length))]
 fn print_answer(answer: Answer, output: &mut [u8]) -> usize
     ensures value { result ≡ told_length answer }
     ensures output_after { output.new ≡ told answer output.old }
 {
     match answer {
-        Answer::Accepted(size) => size as usize,
-        Answer::Refused(refusal) => display::write_refused(output, refusal.number()),
+        Ok(size) => size as usize,
+        Err(refusal) => display::write_refused(output, refusal.number()),
     }
 }
 
@@ -51,7 +54,7 @@ pub fn print_listing(input: &[u8], output: &mut [u8; 65536]) -> usize
     print_answer(answer, output)
 }
 
-// The same of show_card.
+// The same of show_card. One function over the job would take the job's definition beside its code, and be longer.
 pub fn print_card(input: &[u8], output: &mut [u8; 65536]) -> usize
     ensures value { result ≡ length (card_printed input.now) }
     ensures output_after { output.new ≡ card_printed input.now ++ drop (length (card_printed input.now)) output.old }
@@ -63,7 +66,8 @@ pub fn print_card(input: &[u8], output: &mut [u8; 65536]) -> usize
     print_answer(answer, output)
 }
 
-// Reads until the input ends or the buffer is full, and answers how many bytes were read.
+// Reads until the input ends or the buffer is full, and answers how many bytes were read. The library's methods that
+// read to the end need a heap.
 pub fn read_full<R: Read>(input: &mut R, buffer: &mut [u8]) -> io::Result<usize>
     ensures bound { IfOk result (λ n. n ≤ length buffer.new) }
     ensures bytes { IfOk result (λ n. Consumes (R.remaining input.old) (R.remaining input.new) (take n buffer.new)) }

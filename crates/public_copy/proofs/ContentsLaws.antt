@@ -1,5 +1,6 @@
 -- Contents with nothing in them: their headers, and entries of 16 bytes.
 -- Assumes nothing.
+use Rattle.std.specs.Prelude.{Ok}
 use Prim.Native.Nat.{ℕ, zero, suc, ◌+◌, ◌*◌, ◌-◌, ◌%◌, ◌≤◌, ◌<◌}
 use mathlib.Core.List.{List, [], ◌++◌, flat_map, append_assoc, append-nil}
 use mathlib.Core.Path.{◌≡◌, refl, sym, ap, ap₂, ◌∙◌}
@@ -11,7 +12,6 @@ use Rattle.wire.specs.Number.{u32_at, bytes_of}
 use Rattle.wire.specs.Padding.{padding, aligned}
 use Rattle.wire.proofs.NumberLaws.{length-bytes_of, number-stored, fields-stored}
 use Rattle.wire.proofs.PaddingLaws.{aligned-by-arithmetic, aligned-of-multiple, padding-by-arithmetic}
-use Rattle.layout.specs.Checked.{good}
 use Rattle.layout.specs.Kinds.{kind_number, compression_number}
 use Rattle.layout.specs.declared.compression.SourceCompression.{SourceCompression}
 use Rattle.layout.specs.declared.compression.SourceCompression.TheVariants.{None, Zlib}
@@ -131,7 +131,7 @@ packed-long count = ap length (packed-copy count) ∙ length-headers Zlib 0 coun
 
 -- ---- they are no longer than the contents that they stand for
 
-entries-least : (p : List ℕ) (end count at : ℕ) (rs : List Row) → entries 12 content_row_at count p at end ≡ good rs → at + 16 * count ≤ end
+entries-least : (p : List ℕ) (end count at : ℕ) (rs : List Row) → entries 12 content_row_at count p at end ≡ Ok rs → at + 16 * count ≤ end
 entries-least p end zero at rs e = omega (arith, (entries_none 12 p end content_row_at at rs e).0)
 entries-least p end (suc count) at rs e =
     let (n, rest, first, others, same) = entries-first 12 p end content_row_at count at rs e in
@@ -140,13 +140,13 @@ entries-least p end (suc count) at rs e =
 
 pub contents-least :
     (p : List ℕ) (at size : ℕ) (rs : List Row) →
-    parse_contents p at size ≡ good rs →
+    parse_contents p at size ≡ Ok rs →
     length (contents_copy (compression_at p at) (u32_at p (at + 24))) ≤ size
 contents-least p at size rs e =
     let (framed, held, flags, known) = contents-good p at size rs e in
     go (compression_at p at) held (omega (arith, framed.within))
   where
-    go : (c : SourceCompression) → parse_stored c p at ≡ good rs → 28 + u32_at p (at + 16) ≤ size → length (contents_copy c (u32_at p (at + 24))) ≤ size
+    go : (c : SourceCompression) → parse_stored c p at ≡ Ok rs → 28 + u32_at p (at + 16) ≤ size → length (contents_copy c (u32_at p (at + 24))) ≤ size
     go None f h =
         let plain = plain-good p at rs f in
         omega (arith, plain-long (u32_at p (at + 24)), entries-least p _ (u32_at p (at + 24)) (at + 28) plain.rest plain.found)

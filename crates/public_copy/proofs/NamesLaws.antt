@@ -1,5 +1,6 @@
 -- Names, entry by entry: an entry that is good has a header of 16 bytes and ends within the entries, and takes as many bytes in the copy.
 -- Assumes nothing.
+use Rattle.std.specs.Prelude.{Ok}
 use Prim.Native.Nat.{ℕ, zero, suc, ◌+◌, ◌-◌, ◌≤◌, ◌<◌}
 use mathlib.Core.List.{List, [], ◌++◌}
 use mathlib.Core.Path.{◌≡◌, refl, sym, ap, ◌∙◌}
@@ -11,7 +12,6 @@ use Rattle.wire.specs.Number.{u16_at, u32_at}
 use Rattle.wire.proofs.NumberLaws.{length-bytes_of}
 use Rattle.wire.proofs.PaddingLaws.{le-aligned}
 use Rattle.wire.proofs.Sets.{sets-joined, sets-inside}
-use Rattle.layout.specs.Checked.{good}
 use Rattle.layout.specs.Spans.{part}
 use Rattle.table.specs.declared.row.Row.{Row}
 use Rattle.format.specs.CopyWalk.{name_copy, name_copies, names_copy}
@@ -53,9 +53,9 @@ module _ (p : List ℕ) where
       pub least : 16 ≤ u32_at p at
       pub within : at + u32_at p at ≤ end
       pub rest : List Row
-      pub others : entries 16 (name_row_at p) count p (at + u32_at p at) end ≡ good rest
+      pub others : entries 16 (name_row_at p) count p (at + u32_at p at) end ≡ Ok rest
 
-    pub first_entry : (count at : ℕ) (rs : List Row) → entries 16 (name_row_at p) (suc count) p at end ≡ good rs → First count at
+    pub first_entry : (count at : ℕ) (rs : List Row) → entries 16 (name_row_at p) (suc count) p at end ≡ Ok rs → First count at
     first_entry count at rs e =
         let (n, rest, first, others, same) = entries-first 16 p end (name_row_at p) count at rs e in
         let told = entry-good 16 p at end n first in
@@ -66,7 +66,7 @@ module _ (p : List ℕ) where
           others = ap (λ (k : ℕ). entries 16 (name_row_at p) count p (at + k) end) told.size ∙ others;
         }
 
-    pub names-long : (count at : ℕ) (rs : List Row) → entries 16 (name_row_at p) count p at end ≡ good rs → at + length (name_copies p count at) ≡ end
+    pub names-long : (count at : ℕ) (rs : List Row) → entries 16 (name_row_at p) count p at end ≡ Ok rs → at + length (name_copies p count at) ≡ end
     unfolding name_copies
     names-long zero at rs e = omega (arith, (entries_none 16 p end (name_row_at p) at rs e).0)
     names-long (suc count) at rs e =
@@ -92,7 +92,7 @@ module _ (p : List ℕ) where
       (within : at + u32_at p at ≤ length p)
       (least : 18 + u16_at p (at + 16) ≤ u32_at p at)
       (rest : List Row)
-      (found : entries 16 (name_row_at p) (u32_at p (at + 12)) p (at + 18) (at + 18 + u16_at p (at + 16)) ≡ good rest)
+      (found : entries 16 (name_row_at p) (u32_at p (at + 12)) p (at + 18) (at + 18 + u16_at p (at + 16)) ≡ Ok rest)
     where
       abbrev held : ℕ
       held = u16_at p (at + 16)

@@ -62,12 +62,8 @@ fn write_entries(output: &mut [u8], to: usize, count: u32)
     requires { to + 16 * count ≤ limit }
     ensures { output.new ≡ sets output.old to (flat_map content_entry (replicate count [])) }
 {
-    let mut at = to;
-    let mut done: u32 = 0;
-    while done < count {
-        write_empty(output, at);
-        at += EMPTY_SIZE;
-        done += 1;
+    for done in 0..count {
+        write_empty(output, to + EMPTY_SIZE * done as usize);
     }
 }
 

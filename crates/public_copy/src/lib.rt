@@ -16,23 +16,18 @@ ghost use Rattle.std.specs.Prelude.{◌≡◌, length};
 ghost use Rattle.format.specs.PublicCopy.{copy_answer, copy_output};
 
 use layout::{Answer, Refusal};
-use parse::Counted;
 
 // Writes the public copy of a payload to a lent output, whole, or refuses it and leaves the output as it was.
 pub fn public_copy(payload: &[u8], output: &mut [u8]) -> Answer
     ensures value { result ≡ copy_answer payload.now (length output.old) }
     ensures output_after { output.new ≡ copy_output payload.now output.old }
 {
-    match parse::parse_srci(payload) {
-        Counted::Refused(refusal) => Answer::Refused(refusal),
-        Counted::Rows(_) => {
-            let size = source_info::copy_srci(payload, &mut output[..0]);
-            let room = output.len();
-            if room < size as usize {
-                return Answer::Refused(Refusal::NoRoom(size));
-            }
-            source_info::copy_srci(payload, output);
-            Answer::Accepted(size)
-        }
+    parse::parse_srci(payload)?;
+    let size = source_info::copy_srci(payload, &mut output[..0]);
+    let room = output.len();
+    if room < size as usize {
+        return Err(Refusal::NoRoom(size));
     }
+    source_info::copy_srci(payload, output);
+    Ok(size)
 }

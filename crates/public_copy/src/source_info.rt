@@ -1,9 +1,8 @@
 // A whole public copy: its sections in order, and the main header before them.
-ghost use Rattle.std.specs.Prelude.{true, ◌≡◌, ◌+◌, ◌≤◌, length};
+ghost use Rattle.std.specs.Prelude.{is_ok, true, ◌≡◌, ◌+◌, ◌≤◌, length};
 ghost use mathlib.Core.List.{flat_map};
 ghost use Rattle.std.proofs.lemmas.List.Edits.{sets};
 ghost use Rattle.wire.specs.Number.{u32_at};
-ghost use Rattle.layout.specs.Checked.{is_good};
 ghost use Rattle.format.specs.CopyWalk.{section_copy, copy_at, copy};
 ghost use Rattle.format.specs.Encoding.{limit};
 ghost use Rattle.format.specs.Parse.{parse_section, parse_sections, parse};
@@ -13,6 +12,7 @@ ghost use Rattle.public_copy.specs.Joined.{joined};
 use crate::contents::write_contents;
 use crate::names::copy_names;
 use layout::{SourceCompression, SourceInfoSectionType};
+use section_reader::{Sections, known_sections};
 
 // What is left of the section of a kind at a place. Answers the place after it.
 fn copy_section(
@@ -22,7 +22,7 @@ fn copy_section(
     output: &mut [u8],
     to: usize,
 ) -> usize
-    requires at_value { is_good (parse_section kind payload.now at (u32_at payload.now at)) ≡ true }
+    requires at_value { is_ok (parse_section kind payload.now at (u32_at payload.now at)) ≡ true }
     requires at_in_bounds { at + u32_at payload.now at ≤ length payload.now }
     requires payload_len_bound { length payload.now ≤ limit }
     requires to_le_at { to ≤ at }
@@ -47,48 +47,33 @@ fn copy_section(
     }
 }
 
-// Where the sections of a copy end, and how many they are.
-#[derive(Clone, Copy)]
-struct Copied {
-    end: usize,
-    sections: u16,
-}
-
-// What is left of so many sections, after the main header.
-fn copy_sections(payload: &[u8], count: u16, output: &mut [u8]) -> Copied
-    requires payload_value { is_good (parse_sections count payload.now 8) ≡ true }
-    requires in_bounds { 8 ≤ length payload.now }
+// What is left of so many sections, after the main header. Answers the place after it.
+fn copy_sections(payload: &[u8], count: u16, output: &mut [u8]) -> usize
+    requires payload_value { is_ok (parse_sections count payload.now 8) ≡ true }
     requires payload_len_bound { length payload.now ≤ limit }
-    ensures end_value { result.end ≡ 8 + length (joined (flat_map (copy_at payload.now) (places_from payload.now count 8))) }
-    ensures end_le_limit { result.end ≤ limit }
-    ensures sections_value { result.sections ≡ length (flat_map (copy_at payload.now) (places_from payload.now count 8)) }
+    ensures value { result ≡ 8 + length (joined (flat_map (copy_at payload.now) (places_from payload.now count 8))) }
+    ensures upper_bound { result ≤ limit }
     ensures output_after { output.new ≡ sets output.old 8 (joined (flat_map (copy_at payload.now) (places_from payload.now count 8))) }
 {
-    let mut at = SourceInfoSectionType::MAIN_HEADER_SIZE;
-    let mut end = at;
-    let mut sections: u16 = 0;
-    let mut done: u16 = 0;
-    while done < count {
-        let kind = SourceInfoSectionType::from_u16(wire::read_u16(payload, at + 6));
-        end = copy_section(payload, kind, at, output, end);
-        sections += kind.known();
-        at += wire::read_u32(payload, at) as usize;
-        done += 1;
+    let mut to = SourceInfoSectionType::MAIN_HEADER_SIZE;
+    for section in Sections::new(payload, count) {
+        to = copy_section(payload, section.kind, section.at, output, to);
     }
-    Copied { end, sections }
+    to
 }
 
 // The public copy of a payload that was checked, from the output's start on, as far as the output goes. Answers its
 // length.
 pub fn copy_srci(payload: &[u8], output: &mut [u8]) -> u32
-    requires { is_good (parse payload.now) ≡ true }
+    requires { is_ok (parse payload.now) ≡ true }
     ensures value { result ≡ length (copy payload.now) }
     ensures output_after { output.new ≡ sets output.old 0 (copy payload.now) }
 {
-    let copied = copy_sections(payload, wire::read_u16(payload, 6), output);
-    let size = copied.end as u32;
+    let count = wire::read_u16(payload, 6);
+    let sections = known_sections(payload, count);
+    let size = copy_sections(payload, count, output) as u32;
     wire::write_u32(output, 0, size);
     wire::write_u16(output, 4, 0);
-    wire::write_u16(output, 6, copied.sections);
+    wire::write_u16(output, 6, sections);
     size
 }

@@ -1,18 +1,16 @@
 -- The loops of the second pass, turn by turn: what a turn stores, and what is left to store.
 -- Assumes nothing.
 use Prim.Native.Nat.{ℕ, ◌+◌, ◌-◌, ◌≤◌, ◌<◌}
-use mathlib.Core.List.{List, flat_map}
+use mathlib.Core.List.{List}
 use mathlib.Core.Path.{◌≡◌}
 use native.Mathlib.Nat.{add_assoc}
-use lib.ListN.{length}
 use Rattle.wire.specs.Number.{u32_at}
 use Rattle.table.specs.Rows.{store_row}
 use Rattle.table.specs.declared.row.Row.{Row}
 use Rattle.format.specs.Parse.{after_pair}
-use Rattle.format.specs.Walk.{places_from, walk_entries, pair_at, walk_pairs, rows_at}
-use Rattle.format.proofs.Walking.{one_fewer, none_left, places-next, places-end}
+use Rattle.format.specs.Walk.{walk_entries, pair_at, walk_pairs}
+use Rattle.format.proofs.Walking.{one_fewer, none_left}
 use Rattle.read.specs.Store.{store_rows}
-use Rattle.read.proofs.Stored.{store_rows-append}
 
 module _ (p : List ℕ) (count done : ℕ) (more : done < count) where
   pub entries-store-step :
@@ -29,15 +27,6 @@ module _ (p : List ℕ) (count done : ℕ) (more : done < count) where
   unfolding store_rows walk_pairs
   pairs-store-step at index rows = rw (one_fewer count done more, ← add_assoc index done 1)
 
-  pub sections-store-step :
-      (at index : ℕ) (rows : List ℕ) →
-      store_rows rows index (flat_map (rows_at p) (places_from p (count - done) at))
-      ≡ store_rows (store_rows rows index (rows_at p at)) (index + length (rows_at p at)) (flat_map (rows_at p) (places_from p (count - (done + 1)) (at + u32_at p at)))
-  unfolding flat_map
-  sections-store-step at index rows =
-      rw (places-next p count done more at)
-      (store_rows-append rows index (rows_at p at) (flat_map (rows_at p) (places_from p (count - (done + 1)) (at + u32_at p at))))
-
 module _ (p : List ℕ) (count done : ℕ) (all : count ≤ done) where
   pub entries-store-done : (row_at : ℕ → Row) (at index : ℕ) (rows : List ℕ) → store_rows rows index (walk_entries p row_at (count - done) at) ≡ rows
   unfolding store_rows walk_entries
@@ -46,7 +35,3 @@ module _ (p : List ℕ) (count done : ℕ) (all : count ≤ done) where
   pub pairs-store-done : (at index : ℕ) (rows : List ℕ) → store_rows rows index (walk_pairs p (count - done) at) ≡ rows
   unfolding store_rows walk_pairs
   pairs-store-done at index rows = rw (none_left count done all)
-
-  pub sections-store-done : (at index : ℕ) (rows : List ℕ) → store_rows rows index (flat_map (rows_at p) (places_from p (count - done) at)) ≡ rows
-  unfolding store_rows flat_map
-  sections-store-done at index rows = rw (places-end p count done all at)

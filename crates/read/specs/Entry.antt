@@ -1,9 +1,9 @@
--- What the entries of a section are, and the row of one of them.
+-- The row of an entry, by what the entries of its section are.
 use Rattle.std.specs.Prelude.{ℕ, List}
 use Rattle.table.specs.declared.row.Row.{Row}
 use Rattle.format.specs.Walk.{content_at, name_at}
-use Rattle.read.specs.declared.fill.EntryKind.{EntryKind}
-use Rattle.read.specs.declared.fill.EntryKind.TheVariants.{Content, Name}
+use Rattle.section_reader.specs.declared.entry.EntryKind.{EntryKind}
+use Rattle.section_reader.specs.declared.entry.EntryKind.TheVariants.{Content, Name}
 
 -- the row of the entry of a kind at a place
 abbrev pub entry_row : List ℕ → EntryKind → ℕ → Row

@@ -1,35 +1,17 @@
 // The second pass: walks a payload that the first pass accepted, and stores its rows. It checks nothing
 // again; texts are not decoded, and only the NULs of pairs are looked for once more.
-ghost use Rattle.std.specs.Prelude.{◌≡◌, true, ◌+◌, ◌-◌, ◌≤◌, length};
+ghost use Rattle.std.specs.Prelude.{is_ok, ◌≡◌, true, ◌+◌, ◌^◌, ◌≤◌, length};
 ghost use Rattle.wire.specs.Number.{u32_at};
-ghost use Rattle.layout.specs.Checked.{is_good};
 ghost use Rattle.format.specs.Encoding.{limit};
-ghost use Rattle.format.specs.Parse.{packed_row_at, unknown_row_at, parse_contents, parse_section, kind_at, parse, after_pair};
-ghost use Rattle.format.specs.Walk.{compression_at, walk_entries, entries_end, pair_at, walk_pairs, pairs_end, walk_contents, rows_at, walk};
+ghost use Rattle.format.specs.Parse.{packed_row_at, unknown_row_at, parse_contents, parse_section, parse, after_pair};
+ghost use Rattle.format.specs.Walk.{compression_at, walk_entries, entries_end, pair_at, walk_pairs, pairs_end, walk_contents, walk_section, walk};
 ghost use Rattle.read.specs.Entry.{entry_row};
 ghost use Rattle.read.specs.Store.{store_rows};
 
 use layout::{SourceCompression, SourceInfoSectionType};
+use section_reader::{EntryKind, Sections, body_size, text_length};
 use table::Row;
-use wire::{Terminated, TextLength, WireSize};
-
-// What the entries of a section are.
-#[derive(Clone, Copy)]
-enum EntryKind {
-    Content,
-    Name,
-}
-
-// The length of the text of an entry at a place; 0 where its size is 0, which the first pass refuses.
-fn entry_text(payload: &[u8], at: usize) -> TextLength
-    requires { at ≤ length payload.now }
-    ensures { result.0 ≡ u32_at payload.now (at + 8) - 1 }
-{
-    match WireSize(wire::read_u32(payload, at + 8) as usize).text_length() {
-        Terminated::Text(text) => text,
-        Terminated::Nothing => TextLength(0),
-    }
-}
+use wire::TextLength;
 
 // The row of the entry at a place.
 fn entry_row(payload: &[u8], kind: EntryKind, at: usize) -> Row
@@ -37,17 +19,11 @@ fn entry_row(payload: &[u8], kind: EntryKind, at: usize) -> Row
     requires payload_len_bound { length payload.now ≤ limit }
     ensures { result ≡ entry_row payload.now kind at }
 {
-    let text = entry_text(payload, at);
+    let start = (at + kind.header_size()) as u32;
+    let text = text_length(payload, at);
     match kind {
-        EntryKind::Content => Row::content(
-            (at + SourceInfoSectionType::CONTENT_ENTRY_HEADER_SIZE) as u32,
-            text,
-        ),
-        EntryKind::Name => Row::name(
-            (at + SourceInfoSectionType::NAME_ENTRY_HEADER_SIZE) as u32,
-            text,
-            wire::read_u32(payload, at + 12),
-        ),
+        EntryKind::Content => Row::content(start, text),
+        EntryKind::Name => Row::name(start, text, wire::read_u32(payload, at + 12)),
     }
 }
 
@@ -62,15 +38,13 @@ fn fill_entries(
 )
     requires start_in_bounds { entries_end payload.now count start ≤ length payload.now }
     requires payload_len_bound { length payload.now ≤ limit }
-    requires index_le_limit { index ≤ limit }
+    requires index_bound { index ≤ 2 ^ 60 }
     ensures { rows.new ≡ store_rows rows.old index (walk_entries payload.now (entry_row payload.now kind) count start) }
 {
     let mut at = start;
-    let mut done: u32 = 0;
-    while done < count {
+    for done in 0..count {
         entry_row(payload, kind, at).store(rows, index + done as usize);
         at += wire::read_u32(payload, at) as usize;
-        done += 1;
     }
 }
 
@@ -90,16 +64,14 @@ fn pair_row(payload: &[u8], at: usize) -> Row
 fn fill_pairs(payload: &[u8], count: u32, start: usize, rows: &mut [u32], index: usize)
     requires start_in_bounds { pairs_end payload.now count start ≤ length payload.now }
     requires payload_len_bound { length payload.now ≤ limit }
-    requires index_le_limit { index ≤ limit }
+    requires index_bound { index ≤ 2 ^ 60 }
     ensures { rows.new ≡ store_rows rows.old index (walk_pairs payload.now count start) }
 {
     let mut at = start;
-    let mut done: u32 = 0;
-    while done < count {
+    for done in 0..count {
         let row = pair_row(payload, at);
         row.store(rows, index + done as usize);
         at = row.c as usize + TextLength(row.d).wire_size().0;
-        done += 1;
     }
 }
 
@@ -119,11 +91,12 @@ fn packed_row(payload: &[u8], at: usize) -> Row
 }
 
 // Stores the rows of the contents section at a place from an index on, and answers the next index.
+#[tactic(auto, unfolding(format::specs::Walk::walk_contents, crate::specs::Store::store_rows))]
 fn fill_contents(payload: &[u8], at: usize, rows: &mut [u32], index: usize) -> usize
-    requires at_value { is_good (parse_contents payload.now at (u32_at payload.now at)) ≡ true }
+    requires at_value { is_ok (parse_contents payload.now at (u32_at payload.now at)) ≡ true }
     requires at_in_bounds { at + u32_at payload.now at ≤ length payload.now }
     requires payload_len_bound { length payload.now ≤ limit }
-    requires index_le_at { index ≤ at }
+    requires index_le_limit { index ≤ limit }
     ensures value { result ≡ index + length (walk_contents payload.now (compression_at payload.now at) at) }
     ensures rows_after { rows.new ≡ store_rows rows.old index (walk_contents payload.now (compression_at payload.now at) at) }
 {
@@ -150,7 +123,6 @@ fn fill_contents(payload: &[u8], at: usize, rows: &mut [u32], index: usize) -> u
 
 // The row of the unknown section of a kind at a place.
 fn unknown_row(payload: &[u8], kind: u16, at: usize) -> Row
-    requires bound { 8 ≤ u32_at payload.now at }
     requires at_in_bounds { at + u32_at payload.now at ≤ length payload.now }
     requires payload_len_bound { length payload.now ≤ limit }
     ensures { result ≡ unknown_row_at kind at (u32_at payload.now at) }
@@ -158,21 +130,27 @@ fn unknown_row(payload: &[u8], kind: u16, at: usize) -> Row
     Row::unknown(
         kind,
         (at + SourceInfoSectionType::SECTION_HEADER_SIZE) as u32,
-        wire::read_u32(payload, at) - SourceInfoSectionType::SECTION_HEADER_SIZE as u32,
+        body_size(payload, at),
     )
 }
 
-// Stores the rows of the section at a place from an index on, and answers the next index.
-fn fill_section(payload: &[u8], at: usize, rows: &mut [u32], index: usize) -> usize
-    requires at_value { is_good (parse_section (kind_at payload.now at) payload.now at (u32_at payload.now at)) ≡ true }
-    requires bound { 8 ≤ u32_at payload.now at }
+// Stores the rows of the section of a kind at a place from an index on, and answers the next index.
+#[tactic(auto, unfolding(format::specs::Walk::walk_section, crate::specs::Store::store_rows))]
+fn fill_section(
+    payload: &[u8],
+    kind: SourceInfoSectionType,
+    at: usize,
+    rows: &mut [u32],
+    index: usize,
+) -> usize
+    requires at_value { is_ok (parse_section kind payload.now at (u32_at payload.now at)) ≡ true }
     requires at_in_bounds { at + u32_at payload.now at ≤ length payload.now }
     requires payload_len_bound { length payload.now ≤ limit }
-    requires index_le_at { index ≤ at }
-    ensures value { result ≡ index + length (rows_at payload.now at) }
-    ensures rows_after { rows.new ≡ store_rows rows.old index (rows_at payload.now at) }
+    requires index_le_limit { index ≤ limit }
+    ensures value { result ≡ index + length (walk_section payload.now kind at) }
+    ensures rows_after { rows.new ≡ store_rows rows.old index (walk_section payload.now kind at) }
 {
-    match SourceInfoSectionType::from_u16(wire::read_u16(payload, at + 6)) {
+    match kind {
         SourceInfoSectionType::SourceContents => fill_contents(payload, at, rows, index),
         SourceInfoSectionType::SourceNames => {
             Row::names().store(rows, index);
@@ -208,16 +186,12 @@ fn fill_section(payload: &[u8], at: usize, rows: &mut [u32], index: usize) -> us
 
 // Stores the rows of an accepted payload from the table's start on.
 pub fn fill_srci(payload: &[u8], rows: &mut [u32])
-    requires { is_good (parse payload.now) ≡ true }
+    requires { is_ok (parse payload.now) ≡ true }
     ensures { rows.new ≡ store_rows rows.old 0 (walk payload.now) }
 {
     let count = wire::read_u16(payload, 6);
-    let mut at = SourceInfoSectionType::MAIN_HEADER_SIZE;
     let mut index: usize = 0;
-    let mut done: u16 = 0;
-    while done < count {
-        index = fill_section(payload, at, rows, index);
-        at += wire::read_u32(payload, at) as usize;
-        done += 1;
+    for section in Sections::new(payload, count) {
+        index = fill_section(payload, section.kind, section.at, rows, index);
     }
 }

@@ -13,7 +13,6 @@ ghost use Rattle.std.specs.Prelude.{◌≡◌, length};
 ghost use Rattle.format.specs.Read.{read_answer, read_table};
 
 use layout::{Answer, Refusal};
-use parse::Counted;
 use table::Row;
 
 // Reads a payload into the rows of a lent table, whole, or refuses it and leaves the table as it was.
@@ -21,14 +20,10 @@ pub fn read(payload: &[u8], rows: &mut [u32]) -> Answer
     ensures value { result ≡ read_answer payload.now (length rows.old) }
     ensures rows_after { rows.new ≡ read_table payload.now rows.old }
 {
-    match parse::parse_srci(payload) {
-        Counted::Refused(refusal) => Answer::Refused(refusal),
-        Counted::Rows(count) => {
-            if (rows.len() / Row::WIDTH) < count as usize {
-                return Answer::Refused(Refusal::NoRows(count));
-            }
-            fill::fill_srci(payload, rows);
-            Answer::Accepted(count)
-        }
+    let count = parse::parse_srci(payload)?;
+    if (rows.len() / Row::WIDTH) < count as usize {
+        return Err(Refusal::NoRows(count));
     }
+    fill::fill_srci(payload, rows);
+    Ok(count)
 }

@@ -38,7 +38,7 @@
 
 ghost use Rattle.std.specs.Prelude.{◌≡◌, ◌≤◌, length};
 
-use layout::Answer;
+use layout::{Answer, answer_number, answer_second};
 use std::io::Write;
 use std::{fs, io};
 use table::Row;
@@ -71,37 +71,20 @@ fn find(text: &[u8], start: usize, byte: u8) -> usize
     requires { start ≤ length text.now }
     ensures { (start ≤ result) × (result ≤ length text.now) }
 {
-    let mut at = start;
-    while at < text.len() {
-        if text[at] == byte {
-            break;
-        }
-        at += 1;
-    }
-    at
+    let rest = &text[start..];
+    start + rest.iter().position(|b| *b == byte).unwrap_or(rest.len())
 }
 
 // The number that decimal digits spell; no more of them are looked at once it has ten.
 fn number(text: &[u8]) -> usize {
     let mut value: usize = 0;
-    let mut at: usize = 0;
-    while at < text.len() {
+    for byte in text {
         if 999_999_999 < value {
             break;
         }
-        value = value * 10 + digit(text[at]) as usize;
-        at += 1;
+        value = value * 10 + digit(*byte) as usize;
     }
     value
-}
-
-// The number in 32 bits, or the largest of those where that is less.
-fn capped(number: usize) -> u32 {
-    if number < 4_294_967_295 {
-        number as u32
-    } else {
-        4_294_967_295
-    }
 }
 
 // Puts the numbers that stand between commas at the start of out, as far as both go, and answers how many
@@ -112,16 +95,14 @@ fn decode_numbers(text: &[u8], out: &mut [u32]) -> usize
     if check::same(text, b"-") {
         return 0;
     }
-    let mut count: usize = 0;
-    let mut at: usize = 0;
-    while count < out.len() {
-        if text.len() <= at {
+    let mut count = 0;
+    for field in text.split_inclusive(|byte| *byte == b',') {
+        if count == out.len() {
             break;
         }
-        let end = find(text, at, b',');
-        out[count] = capped(number(&text[at..end]));
+        let digits = field.strip_suffix(b",".as_slice()).unwrap_or(field);
+        out[count] = u32::try_from(number(digits)).unwrap_or(u32::MAX);
         count += 1;
-        at = end + 1;
     }
     count
 }
@@ -131,66 +112,32 @@ fn decode_numbers(text: &[u8], out: &mut [u32]) -> usize
 fn decode(text: &[u8], out: &mut [u8]) -> usize
     ensures { result ≤ length out.new }
 {
-    let mut count: usize = 0;
-    while count < out.len() {
-        if text.len() / 2 <= count {
-            break;
-        }
-        let at = count * 2;
-        out[count] = digit(text[at]) * 16 + digit(text[at + 1]);
-        count += 1;
+    let pairs = text.chunks_exact(2);
+    let count = pairs.len().min(out.len());
+    for (byte, pair) in out.iter_mut().zip(pairs) {
+        *byte = digit(pair[0]) * 16 + digit(pair[1]);
     }
     count
-}
-
-fn print_number<W: Write>(out: &mut W, number: u32) -> io::Result<()> {
-    write!(out, "{number}")
 }
 
 // Each with a space before it.
 fn print_numbers<W: Write>(out: &mut W, numbers: &[u32]) -> io::Result<()> {
     for number in numbers {
-        out.write_all(b" ")?;
-        print_number(out, *number)?;
+        write!(out, " {number}")?;
     }
     Ok(())
-}
-
-fn print_byte<W: Write>(out: &mut W, byte: u8) -> io::Result<()> {
-    write!(out, "{byte:02x}")
 }
 
 fn print_bytes<W: Write>(out: &mut W, bytes: &[u8]) -> io::Result<()> {
     for byte in bytes {
-        print_byte(out, *byte)?;
+        write!(out, "{byte:02x}")?;
     }
     Ok(())
 }
 
-// How many numbers are as they were before a call.
-fn untouched(numbers: &[u32]) -> usize {
-    let mut count: usize = 0;
-    let mut i: usize = 0;
-    while i < numbers.len() {
-        if numbers[i] == UNTOUCHED {
-            count += 1;
-        }
-        i += 1;
-    }
-    count
-}
-
-// How many bytes are as they were before a call.
-fn untouched_bytes(bytes: &[u8]) -> usize {
-    let mut count: usize = 0;
-    let mut i: usize = 0;
-    while i < bytes.len() {
-        if bytes[i] == UNTOUCHED_BYTE {
-            count += 1;
-        }
-        i += 1;
-    }
-    count
+// How many items are as they were before a call.
+fn untouched<T: PartialEq + Copy>(items: &[T], before: T) -> usize {
+    items.iter().filter(|item| **item == before).count()
 }
 
 // How many rows or bytes are stored, and 0 where an answer has more than there is room for.
@@ -198,8 +145,8 @@ fn stored(answer: Answer, most: usize) -> usize
     ensures { result ≤ most }
 {
     match answer {
-        Answer::Refused(_) => 0,
-        Answer::Accepted(count) => {
+        Err(_) => 0,
+        Ok(count) => {
             if (count as usize) <= most {
                 count as usize
             } else {
@@ -211,17 +158,16 @@ fn stored(answer: Answer, most: usize) -> usize
 
 // The two numbers of an answer, each with a space after it.
 fn print_answer<W: Write>(out: &mut W, answer: Answer) -> io::Result<()> {
-    print_number(out, answer.number())?;
-    out.write_all(b" ")?;
-    print_number(out, answer.second())?;
-    out.write_all(b" ")
+    let number = answer_number(answer);
+    let second = answer_second(answer);
+    write!(out, "{number} {second} ")
 }
 
 fn print_table<W: Write>(out: &mut W, table: &[u32; NUMBERS], stored: usize) -> io::Result<()>
     requires { stored ≤ 128 }
 {
     let numbers = &table[..];
-    let left = untouched(&numbers[stored..]);
+    let left = untouched(&numbers[stored..], UNTOUCHED);
     write!(out, "{left}")?;
     print_numbers(out, &numbers[..stored])?;
     out.write_all(b"\n")
@@ -231,7 +177,7 @@ fn print_output<W: Write>(out: &mut W, output: &[u8; BYTES], stored: usize) -> i
     requires { stored ≤ 512 }
 {
     let bytes = &output[..];
-    let left = untouched_bytes(&bytes[stored..]);
+    let left = untouched(&bytes[stored..], UNTOUCHED_BYTE);
     write!(out, "{left} ")?;
     print_bytes(out, &bytes[..stored])?;
     out.write_all(b"\n")
@@ -266,30 +212,17 @@ fn replay_write<'a, W: Write>(
 }
 
 // A job that takes an input, which is a payload or a sheet, and an output.
-#[derive(Clone, Copy)]
-enum Job {
-    List,
-    PublicCopy,
-    Card,
-    ToSheet,
-    FromSheet,
-}
-
-fn make(job: Job, input: &[u8], output: &mut [u8]) -> Answer {
-    match job {
-        Job::List => listing::list(input, output),
-        Job::PublicCopy => public_copy::public_copy(input, output),
-        Job::Card => card::card(input, output),
-        Job::ToSheet => to_sheet::to_sheet(input, output),
-        Job::FromSheet => from_sheet::from_sheet(input, output),
-    }
-}
-
-fn replay_made<W: Write>(out: &mut W, job: Job, input: &[u8], lent: usize) -> io::Result<()>
-    requires { lent ≤ 512 }
+fn replay_made<W: Write, F: Fn(&[u8], &mut [u8]) -> Answer>(
+    out: &mut W,
+    make: F,
+    input: &[u8],
+    lent: usize,
+) -> io::Result<()>
+    requires callable { F.IsAlwaysCallable make }
+    requires room { lent ≤ 512 }
 {
     let mut output = [UNTOUCHED_BYTE; BYTES];
-    let answer = make(job, input, &mut output[..lent]);
+    let answer = make(input, &mut output[..lent]);
     print_answer(out, answer)?;
     print_output(out, &output, stored(answer, BYTES))
 }
@@ -355,7 +288,13 @@ fn write_line<W: Write>(out: &mut W, fields: &[u8]) -> io::Result<()> {
 }
 
 // What a call of such a job is given, as data/calls.txt has it. Anything else prints nothing.
-fn made_line<W: Write>(out: &mut W, job: Job, fields: &[u8]) -> io::Result<()> {
+fn made_line<W: Write, F: Fn(&[u8], &mut [u8]) -> Answer>(
+    out: &mut W,
+    make: F,
+    fields: &[u8],
+) -> io::Result<()>
+    requires { F.IsAlwaysCallable make }
+{
     let space = find(fields, 0, b' ');
     if space == fields.len() {
         return Ok(());
@@ -367,7 +306,7 @@ fn made_line<W: Write>(out: &mut W, job: Job, fields: &[u8]) -> io::Result<()> {
     let start = space + 1;
     let mut input = [0u8; BUFFER];
     let count = decode(&fields[start..], &mut input);
-    replay_made(out, job, &input[..count], lent)
+    replay_made(out, make, &input[..count], lent)
 }
 
 // A call of the job that the line begins with. A line that names no job prints nothing.
@@ -386,29 +325,26 @@ fn replay_line<W: Write>(out: &mut W, line: &[u8]) -> io::Result<()> {
         return write_line(out, fields);
     }
     if check::same(word, b"list") {
-        return made_line(out, Job::List, fields);
+        return made_line(out, listing::list, fields);
     }
     if check::same(word, b"public_copy") {
-        return made_line(out, Job::PublicCopy, fields);
+        return made_line(out, public_copy::public_copy, fields);
     }
     if check::same(word, b"card") {
-        return made_line(out, Job::Card, fields);
+        return made_line(out, card::card, fields);
     }
     if check::same(word, b"to_sheet") {
-        return made_line(out, Job::ToSheet, fields);
+        return made_line(out, to_sheet::to_sheet, fields);
     }
     if check::same(word, b"from_sheet") {
-        return made_line(out, Job::FromSheet, fields);
+        return made_line(out, from_sheet::from_sheet, fields);
     }
     Ok(())
 }
 
 fn replay_all<W: Write>(out: &mut W, calls: &[u8]) -> io::Result<()> {
-    let mut at: usize = 0;
-    while at < calls.len() {
-        let end = find(calls, at, b'\n');
-        replay_line(out, &calls[at..end])?;
-        at = end + 1;
+    for call in calls.split(|byte| *byte == b'\n') {
+        replay_line(out, call)?;
     }
     Ok(())
 }

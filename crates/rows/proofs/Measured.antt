@@ -1,12 +1,12 @@
 -- Measuring rows comes to the length of what writing gives, or to its refusal: rows that obey the rules say records in order, and count as these do.
 -- Assumes nothing.
+use Rattle.std.specs.Prelude.{Err, Ok}
 use Prim.Native.Nat.{ℕ}
 use mathlib.Core.Bool.{Bool, true, false, cond, and-eq-true_iff}
 use mathlib.Core.List.{List, [], ◌∷◌}
 use mathlib.Core.Path.{◌≡◌, refl, sym, ap, ◌∙◌}
-use native.Mathlib.Omega.{arith}
 use lib.ListN.{length}
-use Rattle.layout.specs.Checked.{Checked, fault, good, check}
+use Rattle.layout.specs.Checked.{Checked, check}
 use Rattle.layout.specs.declared.refusal.Refusal.{Refusal}
 use Rattle.layout.specs.declared.refusal.Refusal.TheVariants.{WontFit}
 use Rattle.layout.proofs.Checked.{after-fault, after-good, then-good}
@@ -24,7 +24,7 @@ use Rattle.format.specs.Sections.{Section}
 use Rattle.format.specs.Write.{written}
 use Rattle.format.proofs.RowRules.{Ruled, RowOk, first-ok}
 use Rattle.format.proofs.SaidSections.{row_record, row_records, sections-said}
-use Rattle.sizes.specs.Measure.{sized, measured, opened, added, advance, nothing, finish, measure_records}
+use Rattle.sizes.specs.Measure.{sized, opened, added, advance, nothing, finish, measure_records}
 use Rattle.sizes.specs.declared.sizes.Sizes.{Sizes}
 use Rattle.sizes.proofs.MeasuredRecords.{next-tag, measured-records}
 use Rattle.sizes.proofs.Sized.{sized-check}
@@ -41,7 +41,7 @@ is-placed previous r Unknown h = refl
 is-placed previous r Content h = ((and-eq-true_iff _ _).0 h).0
 is-placed previous r Name h = ((and-eq-true_iff _ _).0 h).0
 is-placed previous r Pair h = ((and-eq-true_iff _ _).0 h).0
-is-placed previous r None h = let z : ◌≡◌ {A = ℕ} 0 1 = cc in absurd (omega arith)
+is-placed previous r None h = cc
 
 row-tag : (m : Sizes) (r : Row) → (count_row m r).previous ≡ tag_of r.tag
 unfolding count_row
@@ -72,14 +72,14 @@ module _ (payload edit : List ℕ) where
   row_counts m r Pair e ok = rw (e, ok.0.whole, ok.1.whole)
   row_counts m r None e ok = absurd ok
 
-  in_order_lem : (previous : Tag) (rows : List Row) → check_rows payload edit previous rows ≡ good tt → in_order previous (row_records payload edit rows) ≡ true
+  in_order_lem : (previous : Tag) (rows : List Row) → check_rows payload edit previous rows ≡ Ok tt → in_order previous (row_records payload edit rows) ≡ true
   unfolding in_order said
   in_order_lem previous [] e = refl
   in_order_lem previous (r ∷ rows) e =
       let (rule, ok, rest) = first-ok payload edit previous r rows e in
       rw (is-placed previous r (tag_of r.tag) rule, in_order_lem (tag_of r.tag) rows rest)
 
-  rows-measured : (rows : List Row) (m : Sizes) → check_rows payload edit m.previous rows ≡ good tt → measure_from payload edit m rows ≡ finish (measure_records m (row_records payload edit rows))
+  rows-measured : (rows : List Row) (m : Sizes) → check_rows payload edit m.previous rows ≡ Ok tt → measure_from payload edit m rows ≡ finish (measure_records m (row_records payload edit rows))
   unfolding check_rows measure_from measure_records
   rows-measured [] m e = refl
   rows-measured (r ∷ rows) m e =
@@ -89,33 +89,36 @@ module _ (payload edit : List ℕ) where
       rows-measured rows (count_row m r) (rw (row-tag m r) rest) ∙
       ap (λ (next : Sizes). finish (measure_records next (row_records payload edit rows))) (row_counts m r (tag_of r.tag) refl ok)
 
-  rows-refused : (refusal : Refusal) (rows : List Row) (m : Sizes) → check_rows payload edit m.previous rows ≡ fault refusal → measure_from payload edit m rows ≡ fault refusal
+  rows-refused : (refusal : Refusal) (rows : List Row) (m : Sizes) → check_rows payload edit m.previous rows ≡ Err refusal → measure_from payload edit m rows ≡ Err refusal
   unfolding check_rows measure_from
-  rows-refused refusal [] m e = let z : ◌≡◌ {A = ℕ} 0 1 = cc in absurd (omega arith)
+  rows-refused refusal [] m e = cc
   rows-refused refusal (r ∷ rows) m e = go (check_row payload edit m.previous r) refl (rows-refused refusal rows (count_row m r))
     where
       go :
           (c : Checked (Unit {0})) →
           check_row payload edit m.previous r ≡ c →
-          (check_rows payload edit (count_row m r).previous rows ≡ fault refusal → measure_from payload edit (count_row m r) rows ≡ fault refusal) →
-          measure_from payload edit m (r ∷ rows) ≡ fault refusal
-      go (fault f) q others =
-          let found : ◌≡◌ {A = Checked (Unit {0})} (fault f) (fault refusal) = sym (after-fault _ _ q) ∙ e in
+          (check_rows payload edit (count_row m r).previous rows ≡ Err refusal → measure_from payload edit (count_row m r) rows ≡ Err refusal) →
+          measure_from payload edit m (r ∷ rows) ≡ Err refusal
+      go (Err f) q others =
+          let found : ◌≡◌ {A = Checked (Unit {0})} (Err f) (Err refusal) = sym (after-fault _ _ q) ∙ e in
           let same : f ≡ refusal = cc in
-          after-fault _ _ q ∙ ap fault same
-      go (good tt) q others = after-good _ _ q ∙ others (rw (row-tag m r) (sym (after-good _ _ q) ∙ e))
+          after-fault _ _ q ∙ ap Err same
+      go (Ok tt) q others = after-good _ _ q ∙ others (rw (row-tag m r) (sym (after-good _ _ q) ∙ e))
 
-  pub measured-is-written : (rows : List Row) → measured (measure_from payload edit nothing rows) ≡ sized (written payload edit rows)
+  pub measured-is-written : (rows : List Row) → (measure_from payload edit nothing rows) ≡ sized (written payload edit rows)
   unfolding written resolve
   measured-is-written rows = go (check_rows payload edit None rows) refl
     where
       ss : List Section
       ss = sections_of payload edit rows
 
-      go : (c : Checked (Unit {0})) → check_rows payload edit None rows ≡ c → measured (measure_from payload edit nothing rows) ≡ sized (written payload edit rows)
-      go (fault refusal) e = ap measured (rows-refused refusal rows nothing e) ∙ sym (ap sized (after-fault _ _ (after-fault _ _ e)))
-      go (good done) e =
-          let is : written payload edit rows ≡ check (within_limits ss) WontFit (λ _. good (encode ss)) = after-good _ _ (after-good _ _ e) in
+      go : (c : Checked (Unit {0})) → check_rows payload edit None rows ≡ c → (measure_from payload edit nothing rows) ≡ sized (written payload edit rows)
+      go (Err refusal) e = rows-refused refusal rows nothing e ∙ sym (ap sized (after-fault _ _ (after-fault _ _ e)))
+      go (Ok done) e =
+          let is : written payload edit rows ≡ check (within_limits ss) WontFit (λ _. Ok (encode ss)) = after-good _ _ (after-good _ _ e) in
           let said : ss ≡ sections (row_records payload edit rows) = sections-said payload edit rows in
           let counted = rows-measured rows nothing e ∙ measured-records (row_records payload edit rows) (in_order_lem None rows e) in
-          ap measured counted ∙ rw (← said) (sized-check (within_limits ss) WontFit (encode ss)) ∙ sym (ap sized is)
+          counted ∙ rw (← said) (sized-check (within_limits ss) WontFit (encode ss)) ∙ sym (ap sized is)
+
+-- a table that holds whole rows is measured as they are written
+pub ruleset measured = (measured-is-written)

@@ -2,7 +2,8 @@
 ghost use Rattle.std.specs.Prelude.{◌≡◌, ltb, length};
 ghost use Rattle.section_reader.specs.Section.{taken, moved_on};
 
-use crate::section::{MaybeSection, left_at, take_at};
+use crate::section::{Section, left_at, section_at};
+use layout::Refusal;
 
 #[derive(Clone, Copy)]
 pub struct SectionReader<'a> {
@@ -18,12 +19,12 @@ impl<'a> SectionReader<'a> {
     }
 
     // Takes the next section, and moves on past it. At a fault the reader stays.
-    pub fn next(&mut self) -> MaybeSection
-        ensures { (result ≡ (taken self.old.payload.now self.old.at).section) × (self.new ≡ moved_on self.old) }
+    pub fn next(&mut self) -> Result<Section, Refusal>
+        ensures { (result ≡ taken self.old.payload.now self.old.at) × (self.new ≡ moved_on self.old) }
     {
-        let taken = take_at(self.payload, self.at);
-        self.at = taken.next;
-        taken.section
+        let section = section_at(self.payload, self.at)?;
+        self.at += section.size;
+        Ok(section)
     }
 
     // Whether bytes are left from the reader's place on.

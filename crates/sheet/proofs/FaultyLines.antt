@@ -1,5 +1,6 @@
 -- A fault of a sheet is that of its first faulty line, with this line's number.
 -- Assumes nothing.
+use Rattle.std.specs.Prelude.{Err, Ok}
 use Prim.Native.Nat.{ℕ, ◌+◌}
 use mathlib.Core.Bool.{Bool, true, false}
 use mathlib.Core.List.{List, [], ◌∷◌, ◌++◌, flat_map, append_assoc}
@@ -9,7 +10,7 @@ use native.Mathlib.Nat.{add-zero}
 use native.Mathlib.Omega.{arith}
 use borrow.Author.Tests.{eqb-false}
 use lib.ListN.{length}
-use Rattle.layout.specs.Checked.{Checked, fault, good, check, then}
+use Rattle.layout.specs.Checked.{Checked, check, then}
 use Rattle.layout.specs.declared.refusal.Refusal.{Refusal}
 use Rattle.layout.proofs.Checked.{then-passes}
 use Rattle.table.specs.declared.tag.Tag.{Tag}
@@ -22,22 +23,22 @@ use Rattle.sheet.specs.Lines.{Parts, parts, split}
 use Rattle.sheet.specs.Promises.{closed, last_tag, RefusedLine, FaultIsOfALine}
 use Rattle.sheet.proofs.Splitting.{Free, closed-split, split-free}
 
-pub never : {A : Type 0} {a : A} {r : Refusal} → ◌≡◌ {A = Checked A} (good a) (fault r) → ⊥
+pub never : {A : Type 0} {a : A} {r : Refusal} → ◌≡◌ {A = Checked A} (Ok a) (Err r) → ⊥
 never e = let z : ◌≡◌ {A = ℕ} 0 1 = cc in omega arith
 
 -- where two steps come to a fault, the first does, or the second after its value
 pub then-fault :
     {A B C : Type 0} (c : Checked A) (next : A → Checked B) (r : Refusal) →
-    then c next ≡ fault r →
-    (c ≡ fault r → C) →
-    ((a : A) → c ≡ good a → next a ≡ fault r → C) →
+    then c next ≡ Err r →
+    (c ≡ Err r → C) →
+    ((a : A) → c ≡ Ok a → next a ≡ Err r → C) →
     C
 unfolding then
-then-fault (fault q) next r e first second = first (cc)
-then-fault (good a) next r e first second = second a refl e
+then-fault (Err q) next r e first second = first (cc)
+then-fault (Ok a) next r e first second = second a refl e
 
 -- a last test that comes to a fault
-pub check-fault : {A : Type 0} (test : Bool) (refusal : Refusal) (a : A) (r : Refusal) → check test refusal (λ _. good a) ≡ fault r → (test ≡ false) × (r ≡ refusal)
+pub check-fault : {A : Type 0} (test : Bool) (refusal : Refusal) (a : A) (r : Refusal) → check test refusal (λ _. Ok a) ≡ Err r → (test ≡ false) × (r ≡ refusal)
 unfolding check
 check-fault true refusal a r e = absurd (never e)
 check-fault false refusal a r e = (refl, cc)
@@ -58,7 +59,7 @@ record Found (n : ℕ) (previous : Tag) (first : List ℕ) (rest : List (List �
   after : List (List ℕ)
   parted : first ∷ rest ≡ before ++ line ∷ after
   records : List Record
-  read : read_lines n previous (split newline (closed before)).first (split newline (closed before)).rest ≡ good records
+  read : read_lines n previous (split newline (closed before)).first (split newline (closed before)).rest ≡ Ok records
   own : RefusedLine (n + length before) (last_tag previous records) line after refusal
 
 -- where the first part is at fault
@@ -70,7 +71,7 @@ here n previous first rest refusal own =
 
 find :
     (rest : List (List ℕ)) (n : ℕ) (previous : Tag) (first : List ℕ) (refusal : Refusal) →
-    read_lines n previous first rest ≡ fault refusal →
+    read_lines n previous first rest ≡ Err refusal →
     Free newline first →
     All (Free newline) rest →
     Found n previous first rest refusal

@@ -1,5 +1,6 @@
 -- Lines: the line of a record is read as the record, and a line that is read as a record is its line.
 -- Assumes nothing.
+use Rattle.std.specs.Prelude.{Ok}
 use Prim.Native.Nat.{ℕ, ◌+◌, ◌-◌, ◌%◌, min}
 use mathlib.Core.Bool.{Bool, true, false, cond, ◌&&◌, and-eq-true_iff}
 use mathlib.Core.List.{List, [], ◌∷◌, ◌++◌, map, flat_map}
@@ -9,7 +10,6 @@ use borrow.Author.Tests.{leb-true, le-leb, eqb-true, eq-eqb}
 use lib.Dec.{leb, eqb}
 use lib.ListN.{length, take, drop, length-append, length-map, take-append-drop, length-take, length-drop}
 use lib.Seq.{take_at, drop_at}
-use Rattle.layout.specs.Checked.{good}
 use Rattle.layout.specs.declared.refusal.Refusal.{Refusal}
 use Rattle.layout.proofs.Checked.{check-good, check-passes, then-good, then-passes}
 use Rattle.table.specs.Tags.{same_tag, begins_section}
@@ -51,7 +51,7 @@ all_held b [] h = tt
 all_held true (t ∷ ts) (h, hs) = (h, all_held true ts hs)
 all_held false (t ∷ ts) (h, hs) = (tt, all_held false ts hs)
 
-checked : (b : Bool) (ts : List (List ℕ)) → All (TextOk b) ts → check_all (cond b [] ts) ≡ good tt
+checked : (b : Bool) (ts : List (List ℕ)) → All (TextOk b) ts → check_all (cond b [] ts) ≡ Ok tt
 unfolding check_all
 checked true ts h = refl
 checked false [] h = refl
@@ -118,12 +118,12 @@ module _ (r : Record) (whole : Whole r) where
       parted-free [] h = tt
       parted-free (f ∷ fs) (h, hs) = (refl, all_append _ f (parted fs) h.1 (parted-free fs hs))
 
-  pub line_read : (refusal : Refusal) (previous : Tag) → is_placed previous own ≡ true → read_line refusal previous (body r) ≡ good r
+  pub line_read : (refusal : Refusal) (previous : Tag) → is_placed previous own ≡ true → read_line refusal previous (body r) ≡ Ok r
   unfolding read_line read_fields
   line_read refusal previous placed =
       let is : is_ruled (said_by own (fields r)) ≡ true = ap is_ruled said-back ∙ ruled r own refl whole.1.kind in
-      let plain : check_all (texts_of (said_by own (fields r))) ≡ good tt = ap (λ (r : Record). check_all (texts_of r)) said-back ∙ checked (begins_section own) ts whole.1.texts in
-      rw (parts-back, word_read own) (check-passes _ _ _ (rw (made, placed) is) (then-passes _ _ plain (ap good said-back)))
+      let plain : check_all (texts_of (said_by own (fields r))) ≡ Ok tt = ap (λ (r : Record). check_all (texts_of r)) said-back ∙ checked (begins_section own) ts whole.1.texts in
+      rw (parts-back, word_read own) (check-passes _ _ _ (rw (made, placed) is) (then-passes _ _ plain (ap Ok said-back)))
 
 -- ---- from a line to its record
 
@@ -142,7 +142,7 @@ kind_ok r tag.Name q e = tt
 kind_ok r tag.Pair q e = tt
 kind_ok r tag.None q e = tt
 
-texts-ok : (b : Bool) (ts : List (List ℕ)) → All (Held b) ts → check_all (cond b [] ts) ≡ good tt → All (TextOk b) ts
+texts-ok : (b : Bool) (ts : List (List ℕ)) → All (Held b) ts → check_all (cond b [] ts) ≡ Ok tt → All (TextOk b) ts
 unfolding check_all
 texts-ok b [] h e = tt
 texts-ok true (t ∷ ts) (h, hs) e = (h, texts-ok true ts hs e)
@@ -176,7 +176,7 @@ module _ (t : Tag) (fs : List (List ℕ)) (made : is_made t fs ≡ true) where
       let (first, second) = (and-eq-true_iff (eqb (length fs) (number_count t + text_count t)) (all is_number (take (number_count t) fs))).0 two in
       record { many = eqb-true (length fs) (number_count t + text_count t) first; numbers = second; texts = third }
 
-module _ (refusal : Refusal) (previous : Tag) (bytes : List ℕ) (r : Record) (e : read_line refusal previous bytes ≡ good r) where
+module _ (refusal : Refusal) (previous : Tag) (bytes : List ℕ) (r : Record) (e : read_line refusal previous bytes ≡ Ok r) where
   abbrev p : Parts
   p = split tab bytes
 
@@ -192,7 +192,7 @@ module _ (refusal : Refusal) (previous : Tag) (bytes : List ℕ) (r : Record) (e
     pub made : is_made t fs ≡ true
     pub placed : is_placed previous t ≡ true
     pub ruled : is_ruled r ≡ true
-    pub texts : check_all (texts_of r) ≡ good tt
+    pub texts : check_all (texts_of r) ≡ Ok tt
 
   pub tested : Tested
   unfolding read_line read_fields

@@ -1,13 +1,13 @@
 -- The promises of specs/Promises.antt on sheets and payloads, each under its name.
 -- Assumes nothing.
+use Rattle.std.specs.Prelude.{Ok}
 use Prim.Native.Nat.{ℕ}
 use mathlib.Core.Bool.{true}
 use mathlib.Core.List.{List, [], ◌∷◌, flat_map}
 use mathlib.Core.Path.{◌≡◌, refl, sym, ap, ◌∙◌}
 use lib.ListN.{length, take, drop}
 use lib.Seq.{take_at}
-use Rattle.layout.specs.Checked.{Checked, good}
-use Rattle.layout.specs.declared.refusal.Answer.TheVariants.{Accepted}
+use Rattle.layout.specs.Checked.{Checked}
 use Rattle.layout.proofs.Checked.{after-fault, check-good, check-passes, then-good, then-passes, is-good}
 use Rattle.table.specs.declared.row.Row.{Row}
 use Rattle.format.specs.Encoding.{encode, within_limits}
@@ -25,7 +25,7 @@ use Rattle.format.proofs.PayloadRead.{read-payload}
 use Rattle.format.proofs.PayloadStands.{payload-stands}
 use Rattle.format.proofs.Promises.{accepted-stores-bytes}
 use Rattle.format.proofs.Records.{Shaped, sections-of-records, records-of-sections}
-use Rattle.format.proofs.RecordsOk.{Ok, Whole, sections-ok, records-ok, records-order}
+use Rattle.format.proofs.RecordsOk.{Good, Whole, sections-ok, records-ok, records-order}
 use Rattle.format.proofs.RefusedCalls.{refused-call}
 use Rattle.format.specs.RefusedCalls.{OfReading}
 use Rattle.sheet.specs.FromSheet.{from_sheet, from_sheet_answer, from_sheet_output}
@@ -42,9 +42,9 @@ pub record Sheeted (p : List ℕ) : Type 0 where
   pub ok : All WellFormed ss
   pub fit : within_limits ss ≡ true
   pub is : encode ss ≡ p
-  pub made : to_sheet p ≡ good (sheet ss)
+  pub made : to_sheet p ≡ Ok (sheet ss)
 
-pub sheeted : (p : List ℕ) (rows : List Row) → Bytes p → parse p ≡ good rows → Sheeted p
+pub sheeted : (p : List ℕ) (rows : List Row) → Bytes p → parse p ≡ Ok rows → Sheeted p
 unfolding to_sheet
 sheeted p rows bytes e =
     let all = payload-stands p bytes rows e in
@@ -63,15 +63,15 @@ accepted-sheeted p (bytes, e) =
     sheeted p rows bytes found
 
 -- the sheet of sections is read as their encoding
-sheet-read : (ss : List Section) → All WellFormed ss → within_limits ss ≡ true → from_sheet (sheet ss) ≡ good (encode ss)
+sheet-read : (ss : List Section) → All WellFormed ss → within_limits ss ≡ true → from_sheet (sheet ss) ≡ Ok (encode ss)
 unfolding from_sheet sheet
 sheet-read ss ok fit =
     let found = records-read (records ss) (records-order ss _) (records-ok ss ok) in
     then-passes _ _ found (rw (sections-of-records ss) (check-passes _ _ _ fit refl))
 
 -- and so as the payload
-sheet-back : (p : List ℕ) (h : Sheeted p) → from_sheet (sheet h.ss) ≡ good p
-sheet-back p h = sheet-read h.ss h.ok h.fit ∙ ap good h.is
+sheet-back : (p : List ℕ) (h : Sheeted p) → from_sheet (sheet h.ss) ≡ Ok p
+sheet-back p h = sheet-read h.ss h.ok h.fit ∙ ap Ok h.is
 
 pub out-and-back : OutAndBack
 out-and-back p all =
@@ -79,15 +79,15 @@ out-and-back p all =
     (sheet h.ss, h.made, sheet-back p h)
 
 -- a payload that has a sheet is accepted, and this is the sheet of its sections
-pub made-sheeted : (p s : List ℕ) → Bytes p → to_sheet p ≡ good s → (h : Sheeted p) × (sheet h.ss ≡ s)
+pub made-sheeted : (p s : List ℕ) → Bytes p → to_sheet p ≡ Ok s → (h : Sheeted p) × (sheet h.ss ≡ s)
 unfolding to_sheet
 made-sheeted p s bytes e =
     let (rows, found, rest) = then-good _ _ _ e in
     let h = sheeted p rows bytes found in
-    let same : good (sheet h.ss) ≡ good s = sym h.made ∙ e in
+    let same : Ok (sheet h.ss) ≡ Ok s = sym h.made ∙ e in
     (h, cc)
 
-made-back : (p s : List ℕ) → Bytes p → to_sheet p ≡ good s → from_sheet s ≡ good p
+made-back : (p s : List ℕ) → Bytes p → to_sheet p ≡ Ok s → from_sheet s ≡ Ok p
 made-back p s bytes e =
     let (h, is) = made-sheeted p s bytes e in
     ap from_sheet (sym is) ∙ sheet-back p h
@@ -95,13 +95,13 @@ made-back p s bytes e =
 -- ---- the payload of an accepted sheet
 
 -- the sheet of an encoding
-encoded-sheet : (ss : List Section) → All WellFormed ss → within_limits ss ≡ true → AcceptedPayload (encode ss) × (to_sheet (encode ss) ≡ good (sheet ss))
+encoded-sheet : (ss : List Section) → All WellFormed ss → within_limits ss ≡ true → AcceptedPayload (encode ss) × (to_sheet (encode ss) ≡ Ok (sheet ss))
 unfolding to_sheet accepted
 encoded-sheet ss ok fit =
     let found = read-payload ss ok fit in
     ((encoded-bytes ss ok, rw found), then-passes _ _ found (then-passes _ _ (resolves ss ok (encode ss) _ refl refl []) refl))
 
-wholes : (rs : List Record) → All Whole rs → All Shaped rs × All Ok rs
+wholes : (rs : List Record) → All Whole rs → All Shaped rs × All Good rs
 wholes [] h = (tt, tt)
 wholes (r ∷ rs) ((s, o), hs) = let (ss, os) = wholes rs hs in ((s, ss), (o, os))
 
@@ -117,7 +117,7 @@ one-sheet-only s p e =
     let is : encode ss ≡ p = cc in
     let (all, made) = encoded-sheet ss ok fit in
     let shows : sheet ss ≡ s = ap (flat_map line) (records-of-sections rs order shaped) ∙ lines in
-    (rw is at all, ap to_sheet (sym is) ∙ made ∙ ap good shows)
+    (rw is at all, ap to_sheet (sym is) ∙ made ∙ ap Ok shows)
 
 pub sheets-differ : SheetsDiffer
 sheets-differ s t p e f = cc ((one-sheet-only s p e).1, (one-sheet-only t p f).1)
@@ -128,10 +128,10 @@ payloads-differ p q s bytes every e f = cc (made-back p s bytes e, made-back q s
 -- ---- said of the calls
 
 -- the bytes that an accepted call stored
-stored : (made : Checked (List ℕ)) (output : List ℕ) (count : ℕ) → answer made (length output) ≡ Accepted count → made ≡ good (take count (output_after made output))
+stored : (made : Checked (List ℕ)) (output : List ℕ) (count : ℕ) → answer made (length output) ≡ Ok count → made ≡ Ok (take count (output_after made output))
 stored made output count e =
     let (bytes, is, long, room, after) = accepted-stores-bytes made output count e in
-    is ∙ ap good (sym (ap (take count) after ∙ take_at bytes (drop count output) count long))
+    is ∙ ap Ok (sym (ap (take count) after ∙ take_at bytes (drop count output) count long))
 
 pub calls-out-and-back : CallsOutAndBack
 unfolding to_sheet_answer to_sheet_output from_sheet_answer from_sheet_output

@@ -1,14 +1,14 @@
 -- The promises of specs/Promises.antt on refused sheets, each under its name.
 -- Assumes nothing.
+use Rattle.std.specs.Prelude.{Err, Ok}
 use Prim.Native.Nat.{ℕ, ◌+◌, ◌≤◌, min}
 use mathlib.Core.List.{List, [], ◌∷◌, ◌++◌}
 use mathlib.Core.Logic.{◌⊎◌, inl, inr}
 use mathlib.Core.Path.{◌≡◌, refl, sym, ap, ◌∙◌}
 use native.Mathlib.Omega.{arith}
 use lib.ListN.{length}
-use Rattle.layout.specs.Checked.{Checked, fault, good, check}
+use Rattle.layout.specs.Checked.{Checked, check}
 use Rattle.layout.specs.Refusals.{refusal_number, refusal_second}
-use Rattle.layout.specs.declared.refusal.Answer.TheVariants.{Refused}
 use Rattle.layout.specs.declared.refusal.Refusal.{Refusal}
 use Rattle.layout.specs.declared.refusal.Refusal.TheVariants.{NotUtf8, InnerNul, WontFit, BadLine}
 use Rattle.layout.proofs.Checked.{after-fault, after-good}
@@ -30,8 +30,8 @@ use Rattle.sheet.proofs.Splitting.{split-append}
 -- lines at fault are so whatever stands after them
 fault-stays :
     (rest : List (List ℕ)) (n : ℕ) (previous : Tag) (line last : List ℕ) (more : List (List ℕ)) (r : Refusal) →
-    read_lines n previous line (rest ++ [] ∷ []) ≡ fault r →
-    read_lines n previous line (rest ++ last ∷ more) ≡ fault r
+    read_lines n previous line (rest ++ [] ∷ []) ≡ Err r →
+    read_lines n previous line (rest ++ last ∷ more) ≡ Err r
 unfolding read_lines check
 fault-stays [] n previous line last more r e =
     then-fault _ _ r e
@@ -56,7 +56,7 @@ first-fault-decides s after r e =
     let p : Parts = split newline s in
     let q : Parts = split newline after in
     let ended = sym (ap (λ (p : Parts). read_lines 1 None p.first p.rest) (split-ended s)) ∙ e in
-    let found : from_sheet (s ++ newline ∷ after) ≡ fault r = after-fault _ _ (rw (split-append newline s after) (fault-stays p.rest 1 None p.first q.first q.rest r ended)) in
+    let found : from_sheet (s ++ newline ∷ after) ≡ Err r = after-fault _ _ (rw (split-append newline s after) (fault-stays p.rest 1 None p.first q.first q.rest r ended)) in
     (found, λ room. ap (λ (c : Checked (List ℕ)). answer c room) found)
 
 -- ---- which refusals there are
@@ -86,11 +86,11 @@ of-faulty s refusal f = go f.own
     go (inr (closed, is)) = (line _ _ f.line).only refusal is
 
 -- a sheet at fault: its lines are, or it does not fit
-of-sheet : {C : Type 0} (s : List ℕ) (refusal : Refusal) → from_sheet s ≡ fault refusal → (sheet_records s ≡ fault refusal → C) → (refusal ≡ WontFit → C) → C
+of-sheet : {C : Type 0} (s : List ℕ) (refusal : Refusal) → from_sheet s ≡ Err refusal → (sheet_records s ≡ Err refusal → C) → (refusal ≡ WontFit → C) → C
 unfolding from_sheet
 of-sheet s refusal e lines limits = then-fault _ _ refusal e lines (λ rs f g. limits (check-fault _ _ _ refusal g).1)
 
-all_of : (s : List ℕ) (refusal : Refusal) → from_sheet s ≡ fault refusal → OfSheet refusal
+all_of : (s : List ℕ) (refusal : Refusal) → from_sheet s ≡ Err refusal → OfSheet refusal
 all_of s refusal e =
     of-sheet s refusal e
     (λ f. let faulty = fault-is-of-a-line s refusal f in go (1 + length faulty.before) (omega arith) (of-faulty s refusal faulty))
@@ -108,12 +108,12 @@ from-sheet-refuses s room refusal e = go (from_sheet s) refl e
     go :
         (c : Checked (List ℕ)) →
         from_sheet s ≡ c →
-        answer c room ≡ Refused refusal →
-        ((from_sheet s ≡ fault refusal) × OfSheet refusal) ⊎ LacksRoom (from_sheet s) room refusal
-    go (fault r) f g =
-        let found : from_sheet s ≡ fault refusal = cc in
+        answer c room ≡ Err refusal →
+        ((from_sheet s ≡ Err refusal) × OfSheet refusal) ⊎ LacksRoom (from_sheet s) room refusal
+    go (Err r) f g =
+        let found : from_sheet s ≡ Err refusal = cc in
         inl (found, all_of s refusal found)
-    go (good bytes) f g =
+    go (Ok bytes) f g =
         let (lacks, short) = for-room bytes room refusal g in
         inr (bytes, f, lacks, short)
 
@@ -126,10 +126,10 @@ not-of-lines refusal (inr (inl e)) least most = omega (arith, ap refusal_number 
 not-of-lines refusal (inr (inr (n, e))) least most = omega (arith, ap refusal_number e)
 
 -- a call that is refused with 11, 12 or 20 is so for its lines
-lines-refused : (s : List ℕ) (room : ℕ) (refusal : Refusal) → from_sheet_answer s room ≡ Refused refusal → OfLines refusal → sheet_records s ≡ fault refusal
+lines-refused : (s : List ℕ) (room : ℕ) (refusal : Refusal) → from_sheet_answer s room ≡ Err refusal → OfLines refusal → sheet_records s ≡ Err refusal
 lines-refused s room refusal e of = go (from-sheet-refuses s room refusal e)
   where
-    go : ((from_sheet s ≡ fault refusal) × OfSheet refusal) ⊎ LacksRoom (from_sheet s) room refusal → sheet_records s ≡ fault refusal
+    go : ((from_sheet s ≡ Err refusal) × OfSheet refusal) ⊎ LacksRoom (from_sheet s) room refusal → sheet_records s ≡ Err refusal
     go (inl (f, all)) = of-sheet s refusal f (λ g. g) (λ w. absurd (not-of-lines refusal of (omega (arith, ap refusal_number w)) (omega (arith, ap refusal_number w))))
     go (inr (bytes, f, lacks, short)) = absurd (not-of-lines refusal of (omega (arith, ap refusal_number lacks)) (omega (arith, ap refusal_number lacks)))
 

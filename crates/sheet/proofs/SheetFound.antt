@@ -1,5 +1,6 @@
 -- The walk of specs/SheetWalk.antt finds the sheet: where sections stand, the records at their places are theirs.
 -- Assumes nothing.
+use Rattle.std.specs.Prelude.{Ok}
 use Prim.Native.Nat.{ℕ, ◌+◌, ◌-◌, ◌≤◌}
 use mathlib.Core.List.{List, [], ◌∷◌, map, flat_map}
 use mathlib.Core.Path.{◌≡◌, refl, sym, ap, ap₂, ◌∙◌}
@@ -8,7 +9,7 @@ use lib.ListN.{length, length-append}
 use Rattle.wire.specs.Number.{u32_at}
 use Rattle.wire.specs.Padding.{aligned}
 use Rattle.wire.proofs.PaddingLaws.{le-aligned, aligned-of-multiple}
-use Rattle.layout.specs.Checked.{Checked, good}
+use Rattle.layout.specs.Checked.{Checked}
 use Rattle.layout.specs.Spans.{part}
 use Rattle.table.specs.declared.row.Row.{Row}
 use Rattle.table.specs.declared.tag.Tag.TheVariants as tag
@@ -104,14 +105,14 @@ section-found p at s h = rw h.kind (go s h)
         rw (whole, stands-part p (at + 8) bytes h.parts.stored)
 
 -- of an accepted payload the walk is the sheet
-sheet-found : (p : List ℕ) (rows : List Row) → Bytes p → parse p ≡ good rows → to_sheet p ≡ good (sheet_lines p)
+sheet-found : (p : List ℕ) (rows : List Row) → Bytes p → parse p ≡ Ok rows → to_sheet p ≡ Ok (sheet_lines p)
 unfolding to_sheet sheet sheet_lines records
 sheet-found p rows bytes e =
     let all = payload-stands p bytes rows e in
     let ss : List Section = all.sections in
     let same : flat_map records_of ss ≡ flat_map (records_at p) (places p) = sym (paired-flat_map (Here p) (records_at p) records_of (section-found p) (places p) ss (payload-here p rows all)) in
     then-passes _ _ e (then-passes _ _ (resolves ss all.ok p rows all.is all.rows []) refl) ∙
-    ap {B = Checked (List ℕ)} (λ (l : List Record). good (flat_map line l)) same
+    ap {B = Checked (List ℕ)} (λ (l : List Record). Ok (flat_map line l)) same
 
 pub sheet-by-walk : ByWalk to_sheet sheet_lines
 unfolding to_sheet

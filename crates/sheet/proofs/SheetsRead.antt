@@ -1,5 +1,6 @@
 -- Sheets: the lines of records are read as the records, and a sheet that is read as records is their lines.
 -- Assumes nothing.
+use Rattle.std.specs.Prelude.{Ok}
 use Prim.Native.Nat.{ℕ, ◌+◌}
 use mathlib.Core.Bool.{true, and-eq-true_iff}
 use mathlib.Core.List.{List, [], ◌∷◌, ◌++◌, flat_map, append_assoc}
@@ -7,7 +8,7 @@ use mathlib.Core.Path.{◌≡◌, refl, ap₂, ◌∙◌}
 use native.Mathlib.Omega.{arith}
 use borrow.Author.Tests.{eqb-true}
 use lib.ListN.{length}
-use Rattle.layout.specs.Checked.{good, check}
+use Rattle.layout.specs.Checked.{check}
 use Rattle.layout.proofs.Checked.{check-good, then-good, then-passes}
 use Rattle.table.specs.declared.tag.Tag.{Tag}
 use Rattle.table.specs.declared.tag.Tag.TheVariants.{None}
@@ -32,7 +33,7 @@ lines-read :
     in_order previous rs ≡ true →
     All Whole rs →
     (let p : Parts = split newline (flat_map line rs) in
-    read_lines n previous p.first p.rest ≡ good rs)
+    read_lines n previous p.first p.rest ≡ Ok rs)
 unfolding in_order flat_map
 lines-read [] n previous order oks = unfold read_lines split check in refl
 lines-read (r ∷ rs) n previous order (ok, oks) =
@@ -44,14 +45,14 @@ lines-read (r ∷ rs) n previous order (ok, oks) =
     s = flat_map line rs
 
     go :
-        read_line (bad_line n) previous (body r) ≡ good r →
-        read_lines (n + 1) r.tag (split newline s).first (split newline s).rest ≡ good rs →
-        read_lines n previous (split newline (line r ++ s)).first (split newline (line r ++ s)).rest ≡ good (r ∷ rs)
+        read_line (bad_line n) previous (body r) ≡ Ok r →
+        read_lines (n + 1) r.tag (split newline s).first (split newline s).rest ≡ Ok rs →
+        read_lines n previous (split newline (line r ++ s)).first (split newline (line r ++ s)).rest ≡ Ok (r ∷ rs)
     go this after =
         rw (line-then r s, closed-split newline (body r) s (body-within r ok))
         (unfold read_lines in then-passes _ _ this (then-passes _ _ after refl))
 
-pub records-read : (rs : List Record) → in_order None rs ≡ true → All Whole rs → sheet_records (flat_map line rs) ≡ good rs
+pub records-read : (rs : List Record) → in_order None rs ≡ true → All Whole rs → sheet_records (flat_map line rs) ≡ Ok rs
 unfolding sheet_records
 records-read rs order oks = lines-read rs 1 None order oks
 
@@ -69,7 +70,7 @@ none (b ∷ l) e = absurd (omega arith)
 
 read-lines :
     (rest : List (List ℕ)) (n : ℕ) (previous : Tag) (first : List ℕ) (rs : List Record) →
-    read_lines n previous first rest ≡ good rs →
+    read_lines n previous first rest ≡ Ok rs →
     Free newline first →
     All (Free newline) rest →
     Read previous first rest rs
@@ -93,7 +94,7 @@ read-lines (next ∷ rest) n previous first rs e free (k, ks) =
     }
     )
 
-pub read-records : (s : List ℕ) (rs : List Record) → sheet_records s ≡ good rs → (flat_map line rs ≡ s) × All Whole rs × (in_order None rs ≡ true)
+pub read-records : (s : List ℕ) (rs : List Record) → sheet_records s ≡ Ok rs → (flat_map line rs ≡ s) × All Whole rs × (in_order None rs ≡ true)
 unfolding sheet_records
 read-records s rs e =
     let p : Parts = split newline s in

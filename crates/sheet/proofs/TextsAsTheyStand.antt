@@ -1,6 +1,8 @@
 -- Texts as they stand. Escapes and what they stand for are ASCII and no NUL, so a field whose backslashes begin escapes is UTF-8 just where the text
 -- is that it resolves to, and has a NUL just where that has one.
 -- Assumes nothing.
+use Rattle.utf8.specs.declared.Utf8Error.{Utf8Error}
+use Rattle.std.specs.Prelude.{Err, Result, Ok}
 use Prim.Native.Nat.{ℕ, zero, suc, ◌+◌, ◌≤◌, ◌<◌}
 use mathlib.Core.Bool.{Bool, true, false, cond, ◌&&◌, ◌||◌, and-eq-true_iff}
 use mathlib.Core.List.{List, [], ◌∷◌}
@@ -10,9 +12,7 @@ use borrow.Author.Tests.{leb-true, lt-leb, eqb-true}
 use lib.Dec.{leb, eqb, leb-zero, leb-suc-suc, eqb-suc-zero}
 use lib.ListN.{length, drop}
 use Rattle.utf8.specs.Classes.{class_of, length_after}
-use Rattle.utf8.specs.Rfc3629.{Range, alternatives, within, begins, first_length, char_length, octets_from, utf8_of, well_formed}
-use Rattle.utf8.specs.declared.Utf8.{Utf8}
-use Rattle.utf8.specs.declared.Utf8.TheVariants.{WellFormed, IllFormed}
+use Rattle.utf8.specs.Rfc3629.{Range, alternatives, within, begins, first_length, char_length, octets_from, utf8_of, well_formed, ill_formed}
 use Rattle.utf8.proofs.Alternatives.{length_at, class-length}
 use Rattle.utf8.proofs.Laws.{well-formed, not-well-formed}
 use Rattle.find.specs.Nul.{until_nul, has_nul}
@@ -127,21 +127,21 @@ char-rest b s n e = length_rest (class_of b) alternatives refl s n (sym (class-l
 
 -- ---- UTF-8
 
-is_well : Utf8 → Bool
-is_well WellFormed = true
-is_well (IllFormed at) = false
+is_well : Result (Unit {0}) Utf8Error → Bool
+is_well (Ok a) = true
+is_well (Err error) = false
 
 well-is : (s : List ℕ) → well_formed s ≡ is_well (octets_from 0 0 s)
 unfolding utf8_of is_well
 well-is s = go (utf8_of s) refl
   where
-    go : (u : Utf8) → utf8_of s ≡ u → well_formed s ≡ is_well (octets_from 0 0 s)
-    go WellFormed e = well-formed s e ∙ sym (ap is_well e)
-    go (IllFormed at) e = not-well-formed s at e ∙ sym (ap is_well e)
+    go : (u : Result (Unit {0}) Utf8Error) → utf8_of s ≡ u → well_formed s ≡ is_well (octets_from 0 0 s)
+    go (Ok a) e = well-formed s e ∙ sym (ap is_well e)
+    go (Err error) e = not-well-formed s error.valid_up_to e ∙ sym (ap is_well e)
 
 -- what a character's length makes of the bytes after its first
-abbrev next : ℕ → ℕ → List ℕ → Utf8
-next n at s = elim n [ zero ↦ IllFormed at | suc k ↦ octets_from k (at + 1) s ]
+abbrev next : ℕ → ℕ → List ℕ → Result (Unit {0}) Utf8Error
+next n at s = elim n [ zero ↦ ill_formed at | suc k ↦ octets_from k (at + 1) s ]
 
 -- from any places on: the text's bytes stand at others than the field's
 octets-same : (skip i j : ℕ) {f : List ℕ} → Field f → Rest skip f → is_well (octets_from skip i f) ≡ is_well (octets_from skip j (unescape f))

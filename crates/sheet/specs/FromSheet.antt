@@ -1,7 +1,7 @@
 -- The payload of a sheet, with lent output: the answer, and the output afterwards. Lines are taken in order, and the first faulty one decides.
-use Rattle.std.specs.Prelude.{ℕ, ◌+◌, min, List, [], ◌∷◌, length, eqb}
-use Rattle.layout.specs.Checked.{Checked, good, check, then}
-use Rattle.layout.specs.declared.refusal.Answer.{Answer}
+use Rattle.layout.specs.Refusals.{Answer}
+use Rattle.std.specs.Prelude.{ℕ, ◌+◌, min, List, [], ◌∷◌, length, eqb, Ok}
+use Rattle.layout.specs.Checked.{Checked, check, then}
 use Rattle.layout.specs.declared.refusal.Refusal.{Refusal}
 use Rattle.layout.specs.declared.refusal.Refusal.TheVariants.{WontFit, BadLine}
 use Rattle.table.specs.declared.tag.Tag.{Tag}
@@ -20,11 +20,11 @@ bad_line n = BadLine (min n 4294967295)
 -- The records of lines, the first of which has a number and stands after a line of the previous tag. Each part but the last is closed by a newline;
 -- the last is not, and so must be empty.
 unfoldable pub read_lines : ℕ → Tag → List ℕ → List (List ℕ) → Checked (List Record)
-read_lines n previous last [] = check (eqb (length last) 0) (bad_line n) (λ _. good [])
+read_lines n previous last [] = check (eqb (length last) 0) (bad_line n) (λ _. Ok [])
 read_lines n previous first (next ∷ rest) =
     then (read_line (bad_line n) previous first) (λ r.
     then (read_lines (n + 1) r.tag next rest) (λ rs.
-    good (r ∷ rs)))
+    Ok (r ∷ rs)))
 
 -- the records of a sheet
 unfoldable pub sheet_records : List ℕ → Checked (List Record)
@@ -38,7 +38,7 @@ from_sheet s =
     then (sheet_records s) (λ rs.
     let ss : List Section = sections rs in
     check (within_limits ss) WontFit (λ _.
-    good (encode ss)))
+    Ok (encode ss)))
 
 -- what the call answers where so many bytes are lent
 unfoldable pub from_sheet_answer : List ℕ → ℕ → Answer

@@ -1,8 +1,8 @@
 -- A record as a line of a sheet: a word that tells its tag, its numbers, its bytes or texts, parted by tabs and closed by a newline. And a line as
 -- a record.
-use Rattle.std.specs.Prelude.{ℕ, ◌+◌, ◌%◌, Bool, true, false, cond, not, ◌&&◌, ◌||◌, leb, eqb, length, take, drop}
+use Rattle.std.specs.Prelude.{ℕ, ◌+◌, ◌%◌, Bool, true, false, cond, not, ◌&&◌, ◌||◌, leb, eqb, length, take, drop, Ok}
 use mathlib.Core.List.{List, [], ◌∷◌, ◌++◌, map, flat_map}
-use Rattle.layout.specs.Checked.{Checked, good, check, then}
+use Rattle.layout.specs.Checked.{Checked, check, then}
 use Rattle.layout.specs.TextCheck.{check_whole}
 use Rattle.layout.specs.declared.refusal.Refusal.{Refusal}
 use Rattle.table.specs.Tags.{same_tag, begins_section}
@@ -96,7 +96,7 @@ is_ruled r = not (same_tag r.tag tag.Unknown) || (leb 3 (number 0 r) && leb (num
 
 -- texts in order: the first fault counts
 unfoldable pub check_all : List (List ℕ) → Checked (Unit {0})
-check_all [] = good tt
+check_all [] = Ok tt
 check_all (t ∷ ts) = then (check_whole t) (λ _. check_all ts)
 
 -- the texts of a record; what a section's own record holds is bytes
@@ -110,7 +110,7 @@ read_fields refusal previous tag fs =
     let r : Record = said_by tag fs in
     check (is_made tag fs && is_placed previous tag && is_ruled r) refusal (λ _.
     then (check_all (texts_of r)) (λ _.
-    good r))
+    Ok r))
 
 -- the record of a line without its newline: its first part is its word, the others are its fields
 unfoldable pub read_line : Refusal → Tag → List ℕ → Checked Record

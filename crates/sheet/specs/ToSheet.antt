@@ -1,8 +1,8 @@
 -- The sheet of a payload, with lent output: the answer, and the output afterwards.
-use Rattle.std.specs.Prelude.{ℕ}
+use Rattle.layout.specs.Refusals.{Answer}
+use Rattle.std.specs.Prelude.{ℕ, Ok}
 use mathlib.Core.List.{List, [], flat_map}
-use Rattle.layout.specs.Checked.{Checked, good, then}
-use Rattle.layout.specs.declared.refusal.Answer.{Answer}
+use Rattle.layout.specs.Checked.{Checked, then}
 use Rattle.format.specs.Output.{answer, output_after}
 use Rattle.format.specs.Parse.{parse}
 use Rattle.format.specs.Records.{records}
@@ -19,7 +19,7 @@ unfoldable pub to_sheet : List ℕ → Checked (List ℕ)
 to_sheet payload =
     then (parse payload) (λ rows.
     then (resolve payload [] rows) (λ sections.
-    good (sheet sections)))
+    Ok (sheet sections)))
 
 -- what the call answers where so many bytes are lent
 unfoldable pub to_sheet_answer : List ℕ → ℕ → Answer

@@ -4,6 +4,8 @@
 // It was put together from the layout (tests/programs/cases.py). The file stdout has what the published Rust prints of the
 // public copy that it writes of this payload: three sections, and no size of the packed contents.
 // tests/programs/run.sh runs the program on every other kind of input.
+//
+// list_payload differs from it in one name: what is longer than a line they share (crate print).
 #![tactic(auto)]
 
 use std::io;

@@ -8,11 +8,14 @@ use borrow.Author.Tests.{leb-true, leb-false, le-leb, lt-leb}
 use lib.Dec.{leb}
 use Rattle.wire.specs.Length.{wire_size}
 use Rattle.wire.specs.Padding.{aligned}
-use Rattle.wire.proofs.PaddingLaws.{le-aligned}
+use Rattle.wire.proofs.PaddingLaws.{le-aligned, padding-below}
 use Rattle.table.specs.declared.tag.Tag.{Tag}
 use Rattle.table.specs.declared.tag.Tag.TheVariants.{PlainContents, PackedContents, Names, Arguments, Unknown, Content, Name, Pair, None}
 use Rattle.format.specs.Encoding.{limit}
 use Rattle.sizes.specs.Measure.{capped, opened, added}
+
+-- padding adds under 4 bytes
+pub ruleset padded = (padding-below)
 
 pub capped_small : (most n : ℕ) → n ≤ most → capped most n ≡ n
 unfolding capped
@@ -68,3 +71,6 @@ added-capped Pair current a b =
     capped-twice limit a (λ k. current + (wire_size k + wire_size (capped limit b))) (λ k. omega arith) ∙
     capped-twice limit b (λ k. current + (wire_size a + wire_size k)) (λ k. omega arith)
 added-capped None current a b = refl
+
+-- the lengths that a record was given, in place of the capped ones
+pub ruleset capped_first = (opened-capped, added-capped)

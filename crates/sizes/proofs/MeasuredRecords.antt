@@ -2,6 +2,7 @@
 -- kept, with what the records that are left add to it, is within the limits exactly where the sections are; a size that was capped is past its limit
 -- either way.
 -- Assumes nothing.
+use Rattle.std.specs.Prelude.{Err, Ok}
 use Prim.Native.Nat.{ℕ, ◌+◌, ◌≤◌}
 use mathlib.Core.Bool.{Bool, true, false, cond, not, and-eq-true_iff, ◌&&◌, ◌||◌}
 use mathlib.Core.List.{List, [], ◌∷◌, ◌++◌, flat_map}
@@ -12,9 +13,10 @@ use native.Mathlib.Omega.{arith}
 use borrow.Author.Tests.{leb-true, le-leb, le-ltb, ltb-false, not-true}
 use lib.Dec.{leb, ltb}
 use lib.ListN.{length, length-append}
+use Rattle.std.proofs.lemmas.Bool.{false_from_ne_true}
 use Rattle.wire.specs.Padding.{aligned}
 use Rattle.wire.proofs.PaddingLaws.{le-aligned, aligned-of-multiple}
-use Rattle.layout.specs.Checked.{fault, good, check}
+use Rattle.layout.specs.Checked.{check}
 use Rattle.layout.specs.declared.refusal.Refusal.TheVariants.{WontFit}
 use Rattle.table.specs.Tags.{same_tag, entry_tag, begins_section}
 use Rattle.table.specs.declared.tag.Tag.{Tag}
@@ -68,16 +70,9 @@ record Same (m after : Sizes) (r : Record) (rs : List Record) : Type 0 where
   forth : Fit m (r ∷ rs) → Fit after rs
   sound : Sound after
 
-holds_not : (b : Bool) → (b ≡ true → ⊥) → b ≡ false
-holds_not true h = absurd (h refl)
-holds_not false h = refl
-
 or-false : (a b : Bool) → (a || b) ≡ false → (a ≡ false) × (b ≡ false)
-or-false true b e = let z : ◌≡◌ {A = ℕ} 0 1 = cc in absurd (omega arith)
+or-false true b e = cc
 or-false false b e = (refl, e)
-
-never : true ≡ false → ⊥
-never e = let z : ◌≡◌ {A = ℕ} 0 1 = cc in omega arith
 
 still-narrow : (t : Tag) (size : ℕ) → (t ≡ Name → size ≤ widest) → (same_tag t Name && ltb widest size) ≡ false
 still-narrow t size h =
@@ -102,15 +97,15 @@ entry-again None = refl
 
 names-begin : (t : Tag) → begins_section t ≡ true → entry_tag t ≡ Name → (first : ℕ) → opened t first ≡ 18
 unfolding opened
-names-begin PlainContents b q first = let z : ◌≡◌ {A = ℕ} 0 1 = cc in absurd (omega arith)
-names-begin PackedContents b q first = let z : ◌≡◌ {A = ℕ} 0 1 = cc in absurd (omega arith)
+names-begin PlainContents b q first = cc
+names-begin PackedContents b q first = cc
 names-begin Names b q first = refl
-names-begin Arguments b q first = let z : ◌≡◌ {A = ℕ} 0 1 = cc in absurd (omega arith)
-names-begin Unknown b q first = let z : ◌≡◌ {A = ℕ} 0 1 = cc in absurd (omega arith)
-names-begin Content b q first = let z : ◌≡◌ {A = ℕ} 0 1 = cc in absurd (omega arith)
-names-begin Name b q first = let z : ◌≡◌ {A = ℕ} 0 1 = cc in absurd (omega arith)
-names-begin Pair b q first = let z : ◌≡◌ {A = ℕ} 0 1 = cc in absurd (omega arith)
-names-begin None b q first = let z : ◌≡◌ {A = ℕ} 0 1 = cc in absurd (omega arith)
+names-begin Arguments b q first = cc
+names-begin Unknown b q first = cc
+names-begin Content b q first = cc
+names-begin Name b q first = cc
+names-begin Pair b q first = cc
+names-begin None b q first = cc
 
 module _ (m : Sizes) (r : Record) (rs : List Record) where
   abbrev t : Tag
@@ -262,7 +257,7 @@ next-same m r rs e sound = go (begins_section r.tag) refl
 -- what measuring comes to
 abbrev Outcome : Sizes → List Record → Type 0
 Outcome m rs =
-    (Fit m rs × (finish (measure_records m rs) ≡ good (total m rs))) ⊎ ((Fit m rs → ⊥) × (finish (measure_records m rs) ≡ fault WontFit))
+    (Fit m rs × (finish (measure_records m rs) ≡ Ok (total m rs))) ⊎ ((Fit m rs → ⊥) × (finish (measure_records m rs) ≡ Err WontFit))
 
 ended-outcome : (m : Sizes) → Sound m → Outcome m []
 unfolding measure_records finish check flat_map sections all_countable entries_size sum leading
@@ -294,7 +289,7 @@ ended-outcome m sound = go (leb m.sections count_limit && not m.wide && leb size
         λ f.
         let fits : (leb m.sections count_limit && not m.wide && leb size limit) ≡ true =
         rw (le-leb m.sections count_limit (omega (arith, f.few)), f.narrow, le-leb size limit (omega (arith, same, f.small))) in
-        never (sym fits ∙ e) in
+        cc in
         inr (not-fit, rw e)
 
 outcome : (rs : List Record) (m : Sizes) → in_order m.previous rs ≡ true → Sound m → Outcome m rs
@@ -304,7 +299,7 @@ outcome (r ∷ rs) m e sound =
     let (here, rest) = (and-eq-true_iff (is_placed m.previous r.tag) (in_order r.tag rs)).0 e in
     let same = next-same m r rs here sound in
     ⊎_elim
-    (λ w. inl ((same.back w.0).0, w.1 ∙ ap good (same.back w.0).1))
+    (λ w. inl ((same.back w.0).0, w.1 ∙ ap Ok (same.back w.0).1))
     (λ w. inr ((λ f. w.0 (same.forth f)), w.1))
     (outcome rs (next m r) (rw next-tag rest) same.sound)
 
@@ -325,7 +320,7 @@ sections-fit rs e =
     record {
       few = omega (arith, few);
       narrow = refl;
-      entries = λ q. let z : ◌≡◌ {A = ℕ} 0 1 = cc in absurd (omega arith);
+      entries = λ q. cc;
       all = all;
       small = omega (arith, main-header rs, small);
     }
@@ -333,10 +328,10 @@ sections-fit rs e =
 pub measured-records :
     (rs : List Record) →
     in_order None rs ≡ true →
-    finish (measure_records nothing rs) ≡ check (within_limits (sections rs)) WontFit (λ _. good (length (encode (sections rs))))
+    finish (measure_records nothing rs) ≡ check (within_limits (sections rs)) WontFit (λ _. Ok (length (encode (sections rs))))
 unfolding check
 measured-records rs e =
     ⊎_elim
-    (λ w. rw (w.1, fit-sections rs w.0) (ap good (main-header rs)))
-    (λ w. rw (w.1, holds_not (within_limits (sections rs)) (λ f. w.0 (sections-fit rs f))))
-    (outcome rs nothing e (λ _ q. let z : ◌≡◌ {A = ℕ} 0 1 = cc in absurd (omega arith)))
+    (λ w. rw (w.1, fit-sections rs w.0) (ap Ok (main-header rs)))
+    (λ w. rw (w.1, false_from_ne_true (within_limits (sections rs)) (λ f. w.0 (sections-fit rs f))))
+    (outcome rs nothing e (λ _ q. cc))

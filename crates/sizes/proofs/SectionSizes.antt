@@ -82,11 +82,11 @@ unfolding begun opened added stored_bytes countable
 begins tag.PlainContents r rs low =
     let run = entries-length tag.Content (text 0) content_entry (λ q. length-content_entry (text 0 q)) rs in
     let s : Section = plain (number 0 r) (leading tag.Content (text 0) rs) in
-    record { is = s; one = refl; size = length-section s ∙ rw run; narrow = λ f q. let z : ◌≡◌ {A = ℕ} 0 1 = cc in absurd (omega arith); counted = λ f. refl }
+    record { is = s; one = refl; size = length-section s ∙ rw run; narrow = λ f q. cc; counted = λ f. refl }
 begins tag.PackedContents r rs low =
     let s : Section = packed (number 0 r) (text 0 r) (number 1 r) (number 2 r) in
     let all : 28 + length (text 0 r) ≡ 28 + length (text 0 r) + entries_size tag.None rs = omega (arith, none-add rs) in
-    record { is = s; one = refl; size = length-section s ∙ ap aligned all; narrow = λ f q. let z : ◌≡◌ {A = ℕ} 0 1 = cc in absurd (omega arith); counted = λ f. refl }
+    record { is = s; one = refl; size = length-section s ∙ ap aligned all; narrow = λ f q. cc; counted = λ f. refl }
 begins tag.Names r rs low =
     let run = entries-length tag.Name name_of name_entry (λ q. length-name_entry (name_of q)) rs in
     let ns : List Name = leading tag.Name name_of rs in
@@ -101,12 +101,12 @@ begins tag.Names r rs low =
 begins tag.Arguments r rs low =
     let run = entries-length tag.Pair pair_of pair_entry (λ q. length-pair_entry (pair_of q)) rs in
     let s : Section = arguments (leading tag.Pair pair_of rs) in
-    record { is = s; one = refl; size = length-section s ∙ rw run; narrow = λ f q. let z : ◌≡◌ {A = ℕ} 0 1 = cc in absurd (omega arith); counted = λ f. refl }
+    record { is = s; one = refl; size = length-section s ∙ rw run; narrow = λ f q. cc; counted = λ f. refl }
 begins tag.Unknown r rs low =
     let s : Section = unknown (number 0 r) (text 0 r) in
     let all : 8 + length (text 0 r) ≡ 8 + length (text 0 r) + entries_size tag.None rs = omega (arith, none-add rs) in
-    record { is = s; one = refl; size = length-section s ∙ ap aligned all; narrow = λ f q. let z : ◌≡◌ {A = ℕ} 0 1 = cc in absurd (omega arith); counted = λ f. refl }
-begins tag.Content r rs low = let z : ◌≡◌ {A = ℕ} 0 1 = cc in absurd (omega arith)
-begins tag.Name r rs low = let z : ◌≡◌ {A = ℕ} 0 1 = cc in absurd (omega arith)
-begins tag.Pair r rs low = let z : ◌≡◌ {A = ℕ} 0 1 = cc in absurd (omega arith)
-begins tag.None r rs low = let z : ◌≡◌ {A = ℕ} 0 1 = cc in absurd (omega arith)
+    record { is = s; one = refl; size = length-section s ∙ ap aligned all; narrow = λ f q. cc; counted = λ f. refl }
+begins tag.Content r rs low = cc
+begins tag.Name r rs low = cc
+begins tag.Pair r rs low = cc
+begins tag.None r rs low = cc

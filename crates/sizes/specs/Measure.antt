@@ -1,9 +1,9 @@
 -- Measuring, record by record: what is kept, how a record changes it, and what it comes to. That this is the length of what the records' sections
 -- encode to is a theorem (proofs/MeasuredRecords.antt).
-use Rattle.std.specs.Prelude.{ℕ, ◌+◌, Bool, false, cond, not, ◌&&◌, ◌||◌, List, [], ◌∷◌, leb, ltb, length}
+use Rattle.std.specs.Prelude.{ℕ, ◌+◌, Bool, false, cond, not, ◌&&◌, ◌||◌, List, [], ◌∷◌, leb, ltb, length, Ok}
 use Rattle.wire.specs.Length.{wire_size}
 use Rattle.wire.specs.Padding.{aligned}
-use Rattle.layout.specs.Checked.{Checked, fault, good, check}
+use Rattle.layout.specs.Checked.{Checked, check, taking}
 use Rattle.layout.specs.declared.refusal.Refusal.TheVariants.{WontFit}
 use Rattle.table.specs.Tags.{same_tag, begins_section}
 use Rattle.table.specs.declared.tag.Tag.{Tag}
@@ -11,18 +11,10 @@ use Rattle.table.specs.declared.tag.Tag.TheVariants.{PlainContents, PackedConten
 use Rattle.format.specs.Encoding.{limit}
 use Rattle.format.specs.Records.{Record, text}
 use Rattle.sizes.specs.declared.sizes.Sizes.{Sizes}
-use Rattle.sizes.specs.declared.sizes.Measured.{Measured}
-use Rattle.sizes.specs.declared.sizes.Measured.TheVariants.{Bytes, Refused}
 
 -- bytes by their number
-abbrev pub sized : Checked (List ℕ) → Measured
-sized (fault refusal) = Refused refusal
-sized (good bytes) = Bytes (length bytes)
-
--- the same of a size
-abbrev pub measured : Checked ℕ → Measured
-measured (fault refusal) = Refused refusal
-measured (good n) = Bytes n
+abbrev pub sized : Checked (List ℕ) → Checked ℕ
+sized = taking length
 
 -- a number past the most stays one past it
 unfoldable pub capped : ℕ → ℕ → ℕ
@@ -88,7 +80,7 @@ unfoldable pub finish : Sizes → Checked ℕ
 finish m =
     let size : ℕ = m.complete + aligned m.current in
     check (leb m.sections count_limit && not m.wide && leb size limit) WontFit (λ _.
-    good size)
+    Ok size)
 
 -- records in order, each counted by its tag and the lengths of its texts
 unfoldable pub measure_records : Sizes → List Record → Sizes

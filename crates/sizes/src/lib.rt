@@ -9,4 +9,4 @@
 mod part;
 mod sizes;
 
-pub use sizes::{Measured, Sizes};
+pub use sizes::Sizes;

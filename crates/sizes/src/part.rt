@@ -1,5 +1,5 @@
 // What a record adds: the bytes of the section that it begins, or of the entry that it is.
-ghost use Rattle.std.specs.Prelude.{◌≡◌, ◌<◌, ◌^◌};
+ghost use Rattle.std.specs.Prelude.{◌≡◌, ◌+◌, ◌<◌, ◌^◌};
 ghost use Rattle.wire.specs.Padding.{aligned};
 ghost use Rattle.sizes.specs.Measure.{capped, opened, added};
 
@@ -8,26 +8,26 @@ use table::Tag;
 use wire::TextLength;
 
 // A number past the most stays one past it.
+#[tactic(auto, unfolding(crate::specs::Measure::capped))]
 pub(crate) fn cap(most: usize, number: usize) -> u32
     requires { most < 2 ^ 31 }
     ensures { result ≡ capped most number }
 {
-    if number <= most {
-        number as u32
-    } else {
-        most as u32 + 1
-    }
+    number.min(most + 1) as u32
 }
 
-// A length with its padding.
+// A length with its padding. `wire::align4` takes two numbers of 32 bits, and a text's size on the wire has 33.
+#[tactic(auto, using(crate::proofs::Capped::padded), unfolding(wire::specs::Padding::aligned))]
 pub(crate) fn align(length: usize) -> usize
     requires { length < 2 ^ 63 }
-    ensures { result ≡ aligned length }
+    ensures value { result ≡ aligned length }
+    ensures bound { result < length + 4 }
 {
     length + wire::padding_length(length)
 }
 
 // The bytes of the section that a record of a tag begins, before its entries.
+#[tactic(auto, unfolding(crate::specs::Measure::opened))]
 pub(crate) fn opened_size(tag: Tag, first: u32) -> usize
     ensures { result ≡ opened tag first }
 {
@@ -37,27 +37,23 @@ pub(crate) fn opened_size(tag: Tag, first: u32) -> usize
         Tag::Names => SourceInfoSectionType::NAMES_START,
         Tag::Arguments => SourceInfoSectionType::ARGS_START,
         Tag::Unknown => SourceInfoSectionType::SECTION_HEADER_SIZE + first as usize,
-        Tag::Content => 0,
-        Tag::Name => 0,
-        Tag::Pair => 0,
-        Tag::None => 0,
+        // an entry begins none
+        _ => 0,
     }
 }
 
 // The bytes of the entry that a record of a tag is.
+#[tactic(auto, unfolding(crate::specs::Measure::added))]
 pub(crate) fn added_size(tag: Tag, first: u32, second: u32) -> usize
-    ensures { result ≡ added tag first second }
+    ensures value { result ≡ added tag first second }
+    ensures bound { result < first + second + 21 }
 {
     let size = TextLength(first).wire_size().0;
     match tag {
         Tag::Content => align(SourceInfoSectionType::CONTENT_ENTRY_HEADER_SIZE + size),
         Tag::Name => align(SourceInfoSectionType::NAME_ENTRY_HEADER_SIZE + size),
         Tag::Pair => size + TextLength(second).wire_size().0,
-        Tag::PlainContents => 0,
-        Tag::PackedContents => 0,
-        Tag::Names => 0,
-        Tag::Arguments => 0,
-        Tag::Unknown => 0,
-        Tag::None => 0,
+        // a section's own record is no entry
+        _ => 0,
     }
 }

@@ -1,7 +1,7 @@
 // The sizes that are kept from record to record. They stop growing once they are past their limits, so that no
 // records make them overflow.
 ghost use Rattle.std.specs.Prelude.{◌≡◌};
-ghost use Rattle.sizes.specs.Measure.{measured, begin, extend, advance, nothing, finish};
+ghost use Rattle.sizes.specs.Measure.{begin, extend, advance, nothing, finish};
 
 use crate::part::{added_size, align, cap, opened_size};
 use layout::{PAYLOAD_LIMIT, Refusal, SourceInfoSectionType};
@@ -26,13 +26,6 @@ pub struct Sizes {
     pub current: u32,
     // Whether a names section has more entry bytes than its field can hold.
     pub wide: bool,
-}
-
-// How many bytes would be written.
-#[derive(Clone, Copy)]
-pub enum Measured {
-    Bytes(u32),
-    Refused(Refusal),
 }
 
 impl Sizes {
@@ -61,7 +54,7 @@ impl Sizes {
                 self.complete as usize + align(self.current as usize),
             ),
             current: cap(PAYLOAD_LIMIT, opened_size(tag, first)),
-            wide: self.wide,
+            ..self
         }
     }
 
@@ -75,15 +68,15 @@ impl Sizes {
         );
         Sizes {
             previous: tag,
-            sections: self.sections,
-            complete: self.complete,
             current,
             wide: self.wide | (tag.same(Tag::Name) & (NAMES_LIMIT < current as usize)),
+            ..self
         }
     }
 
     // Counts a record of a tag. The first length is that of the bytes that a section's own record stores, or of
     // an entry's text; the second is that of a pair's value. A length that a tag has not is not looked at.
+    #[tactic(auto, using(crate::proofs::Capped::capped_first), unfolding(crate::specs::Measure::advance))]
     pub fn advance(self, tag: Tag, first: usize, second: usize) -> Sizes
         ensures { result ≡ advance self tag first second }
     {
@@ -94,21 +87,15 @@ impl Sizes {
         self.extend(tag, capped, cap(PAYLOAD_LIMIT, second))
     }
 
-    // The size in the end, within the limits.
+    // How many bytes would be written, within the limits.
     #[tactic(auto, unfolding(crate::specs::Measure::finish, layout::specs::Checked::check))]
-    pub fn finish(self) -> Measured
-        ensures { result ≡ measured (finish self) }
+    pub fn finish(self) -> Result<u32, Refusal>
+        ensures { result ≡ finish self }
     {
         let size = self.complete as usize + align(self.current as usize);
-        if COUNT_LIMIT < self.sections as usize {
-            return Measured::Refused(Refusal::WontFit);
+        if COUNT_LIMIT < self.sections as usize || self.wide || PAYLOAD_LIMIT < size {
+            return Err(Refusal::WontFit);
         }
-        if self.wide {
-            return Measured::Refused(Refusal::WontFit);
-        }
-        if PAYLOAD_LIMIT < size {
-            return Measured::Refused(Refusal::WontFit);
-        }
-        Measured::Bytes(size as u32)
+        Ok(size as u32)
     }
 }

@@ -3,8 +3,7 @@
 use Prim.Native.Nat.{ℕ}
 use mathlib.Core.List.{List}
 use mathlib.Core.Path.{sym, ap, ◌∙◌}
-use Rattle.layout.specs.Refusals.{answer_number, answer_second}
-use Rattle.layout.specs.declared.refusal.Answer.{Answer}
+use Rattle.layout.specs.Refusals.{answer_number, answer_second, Answer}
 use Rattle.format.specs.Card.{card_answer, card_output}
 use Rattle.format.specs.PublicCopy.{copy_answer, copy_output}
 use Rattle.format.specs.Secrecy.{SameCallOf}

@@ -1,8 +1,7 @@
 -- Demand 3 of the calls themselves: what `srci_public_copy` and `srci_card` answer and store tells of an accepted payload nothing but its public
 -- facts. Proved in proofs/Secrecy.antt.
 use Rattle.std.specs.Prelude.{ℕ, List, ◌++◌, ◌≡◌, length, drop}
-use Rattle.layout.specs.Refusals.{answer_number, answer_second}
-use Rattle.layout.specs.declared.refusal.Answer.{Answer}
+use Rattle.layout.specs.Refusals.{answer_number, answer_second, Answer}
 use Rattle.format.specs.Card.{card_answer, card_output}
 use Rattle.format.specs.PublicCopy.{copy_answer, copy_output}
 use Rattle.format.specs.PublicFacts.{public_facts}

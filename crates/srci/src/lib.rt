@@ -1,7 +1,7 @@
 // The C entry points: for C and Rust programs, which link libsrci.a.
 //
-// A slice passes as a pointer and a length in elements. No function has a `requires`: every byte string
-// and every table may be passed.
+// One function for each exported name, since C calls no generic one. A slice passes as a pointer and a length in
+// elements. No function has a `requires`: every byte string and every table may be passed.
 #![tactic(auto)]
 
 ghost use Rattle.std.specs.Prelude.{◌≡◌, length};
@@ -15,16 +15,16 @@ ghost use Rattle.sheet.specs.ToSheet.{to_sheet_answer, to_sheet_output};
 ghost use Rattle.sheet.specs.FromSheet.{from_sheet_answer, from_sheet_output};
 ghost use Rattle.srci.specs.Secrecy.{Called};
 
-use layout::Answer;
+use layout::{Answer, answer_number, answer_second};
 
 // An answer as C has it: 0 with the rows or bytes stored in `second`, or the refusal's number with its second number.
 fn tell(answer: Answer, second: &mut u32) -> u32
     ensures value { result ≡ answer_number answer }
     ensures second_after { second.new ≡ answer_second answer }
 {
-    let told = answer.second();
+    let told = answer_second(answer);
     *second = told;
-    answer.number()
+    answer_number(answer)
 }
 
 // Reads a payload into the rows of a lent table. Answers 0, or the refusal's number. Stores in `second`

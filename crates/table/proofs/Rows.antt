@@ -8,10 +8,13 @@ use mathlib.Core.Path.{◌≡◌, refl, sym, ap, ◌∙◌}
 use mathlib.Core.List.{List, [], ◌∷◌, ◌++◌, flat_map, append-nil}
 use borrow.Author.Tests.{lt-ltb, le-ltb}
 use lib.Dec.{ltb, lit<, leb-suc-suc}
-use lib.ListN.{length, get_or, set, drop, length-append, length-drop, drop_of_length-le}
+use lib.ListN.{length, get_or, get_or-eq_default, set, drop, length-append, length-drop, drop_of_length-le}
 use lib.Seq.{sets, length-sets, sets-eq, take-append_seam, drop-append-add, drop-drop}
 use Rattle.table.specs.declared.row.Row.{Row}
 use Rattle.table.specs.Rows.{width, row, no_row, rows_of, numbers_of, table_of, store_row}
+use Rattle.wire.proofs.Sets.{sets-whole}
+use borrow.Rule.Slice.PartMut.{put_mid}
+use Rattle.std.specs.Simd.{first_chunks}
 use Rattle.layout.proofs.Lists.{flat_map-append}
 
 -- A table is whole rows, and at its end fewer numbers than a row has. Each law of `rows_of` goes by this.
@@ -53,6 +56,27 @@ get_or-rows_of t i h = go (whole t) i h
     go (rest h e) k l = absurd (omega arith)
     go (next r w) zero l = refl
     go (next r w) (suc k) l = go w k (omega arith) ∙ simp (suc-mul, towards_suc)
+
+-- the row at an index is the seven numbers of the table's chunk there
+pub chunk-row :
+    (t : List ℕ) (i : ℕ) (chunk : List ℕ) (chunks : List (List ℕ)) →
+    i < length t / width →
+    chunks ≡ first_chunks width (length t / width) t →
+    chunk ≡ get_or chunks i [] →
+    row_at chunk 0 ≡ get_or (rows_of t) i no_row
+unfolding rows_of
+chunk-row t i chunk chunks h f e = rw (e, f) (go (whole t) i h)
+  where
+    go : {u : List ℕ} → Whole u → (k : ℕ) → k < length u / width → row_at (get_or (first_chunks width (length u / width) u) k []) 0 ≡ get_or (rows_of u) k no_row
+    go (rest h e) k l = absurd (omega arith)
+    go (next r {t = u} w) zero l = let more : length (numbers_of r ++ u) / width ≡ suc (length u / width) = omega arith in rw more
+    go (next r {t = u} w) (suc k) l =
+        let more : length (numbers_of r ++ u) / width ≡ suc (length u / width) = omega arith in
+        rw more (go w k (omega arith))
+
+-- past the last whole row there is none
+pub past-row : (t : List ℕ) (i : ℕ) → length t / width ≤ i → get_or (rows_of t) i no_row ≡ no_row
+past-row t i h = get_or-eq_default (rows_of t) no_row (rw (length-rows_of t) h)
 
 -- what holds of every number of a table holds of every number of its rows
 pub record EveryNumber (P : ℕ → Type 0) (r : Row) : Type 0 where
@@ -96,6 +120,16 @@ table_of-rows_of t h = go (whole t) h
     go : {u : List ℕ} → Whole u → length u % width ≡ 0 → table_of (rows_of u) ≡ u
     go (rest {t = u} l e) m = ap table_of e ∙ sym (drop_of_length-le {A = ℕ} u {i = 0} (omega arith))
     go (next r w) m = ap (λ (l : List ℕ). numbers_of r ++ l) (go w (omega arith))
+
+pub stored-in : (t ws : List ℕ) (i k : ℕ) (r : Row) → i < length t / width → ws ≡ numbers_of r → k ≡ width → put_mid (i * width) k t ws ≡ store_row t i r
+unfolding store_row
+stored-in t ws i k r h e f = rw (lt-ltb i (length t / width) h) (sets-whole ws (numbers_of r) t (i * width) k e f (omega arith))
+
+pub stored-out : (t : List ℕ) (i : ℕ) (r : Row) → length t / width ≤ i → store_row t i r ≡ t
+unfolding store_row
+stored-out t i r h = rw (le-ltb i (length t / width) h)
+
+pub ruleset storing = (stored-in, stored-out)
 
 pub length-store_row : (t : List ℕ) (i : ℕ) (r : Row) → length (store_row t i r) ≡ length t
 unfolding store_row

@@ -6,6 +6,9 @@ use mathlib.Core.Path.{◌≡◌, refl, sym, ap, ◌∙◌}
 use native.Mathlib.Decide.{map_dec, ℕ_discrete}
 use native.Mathlib.Omega.{arith}
 use borrow.Author.Tests.{eq-eqb, ne_eqb, eqb-true}
+use denote.Enum.Bare.{sameb}
+use denote.Enum.Declared.{tag_of as variant_of}
+use Rattle.table.specs.contracts.tag.Tag.{the_type}
 use Rattle.table.specs.Tags.{tag_of, tag_number, same_tag, entry_tag, begins_section}
 use Rattle.table.specs.declared.tag.Tag.{Tag}
 use Rattle.table.specs.declared.tag.Tag.TheVariants.{PlainContents, PackedContents, Names, Arguments, Unknown, Content, Name, Pair, None}
@@ -22,6 +25,25 @@ tag_same a b e = sym (number-has-tag a) ∙ ap tag_of (eqb-true (tag_number a) (
 pub other_tag : (a b : Tag) → (a ≡ b → ⊥) → same_tag a b ≡ false
 unfolding same_tag
 other_tag a b n = ne_eqb (tag_number a) (tag_number b) (λ q. n (sym (number-has-tag a) ∙ ap tag_of q ∙ number-has-tag b))
+
+-- `a == b` of the code is the test of the definition
+number-is : (t : Tag) → variant_of the_type t ≡ tag_number t
+number-is PlainContents = refl
+number-is PackedContents = refl
+number-is Names = refl
+number-is Arguments = refl
+number-is Unknown = refl
+number-is Content = refl
+number-is Name = refl
+number-is Pair = refl
+number-is None = refl
+
+pub tag_eq : (a b : Tag) → sameb the_type a b ≡ same_tag a b
+unfolding same_tag
+tag_eq a b = rw (number-is a, number-is b)
+
+-- what code with `a == b` knows, as a value and in the arms of an `if`, decides the test of the definition
+pub ruleset same_tags = (tag_eq, same_tag_lem, other_tag)
 
 pub tag-discrete : Discrete Tag
 tag-discrete a b = map_dec (λ q. sym (number-has-tag a) ∙ ap tag_of q ∙ number-has-tag b) (λ e. ap tag_number e) (ℕ_discrete (tag_number a) (tag_number b))

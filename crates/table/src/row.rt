@@ -4,8 +4,10 @@ ghost use Rattle.std.specs.Prelude.{◌≡◌, get_or};
 ghost use Rattle.layout.specs.Spans.{span};
 ghost use Rattle.table.specs.Rows.{rows_of, no_row, store_row, plain_row, packed_row, names_row, arguments_row, unknown_row, content_row, name_row, pair_row};
 
+use crate::tag::Tag;
 use wire::TextLength;
 
+// All seven are numbers, the tag and the side too, since in the C interface a row is nothing else.
 #[derive(Clone, Copy)]
 pub struct Row {
     // What the row is, by the number of its tag.
@@ -23,46 +25,44 @@ impl Row {
     // How many numbers of a table make a row.
     pub const WIDTH: usize = 7;
 
+    // The row that stands for one that a table does not hold.
+    const ZERO: Row = Row {
+        tag: 0,
+        side: 0,
+        a: 0,
+        b: 0,
+        c: 0,
+        d: 0,
+        e: 0,
+    };
+
     // The row at an index of a table, all zeros where the table does not hold it whole.
     pub fn load(table: &[u32], index: usize) -> Row
         ensures { result ≡ get_or (rows_of table.now) index no_row }
     {
-        if table.len() / Row::WIDTH <= index {
-            return Row {
-                tag: 0,
-                side: 0,
-                a: 0,
-                b: 0,
-                c: 0,
-                d: 0,
-                e: 0,
-            };
-        }
-        let at = index * Row::WIDTH;
-        Row {
-            tag: table[at],
-            side: table[at + 1],
-            a: table[at + 2],
-            b: table[at + 3],
-            c: table[at + 4],
-            d: table[at + 5],
-            e: table[at + 6],
+        match table.as_chunks::<{ Row::WIDTH }>().0.get(index) {
+            Some([tag, side, a, b, c, d, e]) => Row {
+                tag: *tag,
+                side: *side,
+                a: *a,
+                b: *b,
+                c: *c,
+                d: *d,
+                e: *e,
+            },
+            None => Row::ZERO,
         }
     }
 
     // Stores the row at an index of a table; a table that does not hold that index whole stays as it is.
+    #[tactic(auto, using(crate::proofs::Rows::storing))]
     pub fn store(self, table: &mut [u32], index: usize)
         ensures { table.new ≡ store_row table.old index self }
     {
         if index < table.len() / Row::WIDTH {
             let at = index * Row::WIDTH;
-            table[at] = self.tag;
-            table[at + 1] = self.side;
-            table[at + 2] = self.a;
-            table[at + 3] = self.b;
-            table[at + 4] = self.c;
-            table[at + 5] = self.d;
-            table[at + 6] = self.e;
+            let numbers = [self.tag, self.side, self.a, self.b, self.c, self.d, self.e];
+            table[at..at + Row::WIDTH].copy_from_slice(&numbers);
         }
     }
 
@@ -72,13 +72,9 @@ impl Row {
         ensures { result ≡ plain_row field }
     {
         Row {
-            tag: 0,
-            side: 0,
+            tag: Tag::PlainContents.to_u32(),
             a: field,
-            b: 0,
-            c: 0,
-            d: 0,
-            e: 0,
+            ..Row::ZERO
         }
     }
 
@@ -92,7 +88,7 @@ impl Row {
         ensures { result ≡ packed_row field (span 0 start length) count uncompressed }
     {
         Row {
-            tag: 1,
+            tag: Tag::PackedContents.to_u32(),
             side: 0,
             a: field,
             b: start,
@@ -106,13 +102,8 @@ impl Row {
         ensures { result ≡ names_row }
     {
         Row {
-            tag: 2,
-            side: 0,
-            a: 0,
-            b: 0,
-            c: 0,
-            d: 0,
-            e: 0,
+            tag: Tag::Names.to_u32(),
+            ..Row::ZERO
         }
     }
 
@@ -120,13 +111,8 @@ impl Row {
         ensures { result ≡ arguments_row }
     {
         Row {
-            tag: 3,
-            side: 0,
-            a: 0,
-            b: 0,
-            c: 0,
-            d: 0,
-            e: 0,
+            tag: Tag::Arguments.to_u32(),
+            ..Row::ZERO
         }
     }
 
@@ -134,13 +120,11 @@ impl Row {
         ensures { result ≡ unknown_row kind (span 0 start length) }
     {
         Row {
-            tag: 4,
-            side: 0,
+            tag: Tag::Unknown.to_u32(),
             a: kind as u32,
             b: start,
             c: length,
-            d: 0,
-            e: 0,
+            ..Row::ZERO
         }
     }
 
@@ -148,13 +132,10 @@ impl Row {
         ensures { result ≡ content_row (span 0 start text.0) }
     {
         Row {
-            tag: 5,
-            side: 0,
+            tag: Tag::Content.to_u32(),
             a: start,
             b: text.0,
-            c: 0,
-            d: 0,
-            e: 0,
+            ..Row::ZERO
         }
     }
 
@@ -162,13 +143,11 @@ impl Row {
         ensures { result ≡ name_row (span 0 start text.0) content_size }
     {
         Row {
-            tag: 6,
-            side: 0,
+            tag: Tag::Name.to_u32(),
             a: start,
             b: text.0,
             c: content_size,
-            d: 0,
-            e: 0,
+            ..Row::ZERO
         }
     }
 
@@ -176,13 +155,12 @@ impl Row {
         ensures { result ≡ pair_row (span 0 start name.0) (span 0 value_start value.0) }
     {
         Row {
-            tag: 7,
-            side: 0,
+            tag: Tag::Pair.to_u32(),
             a: start,
             b: name.0,
             c: value_start,
             d: value.0,
-            e: 0,
+            ..Row::ZERO
         }
     }
 }

@@ -3,7 +3,7 @@ ghost use Rattle.std.specs.Prelude.{◌≡◌};
 ghost use Rattle.table.specs.Tags.{tag_of, tag_number, same_tag, entry_tag, begins_section};
 
 // In the order of their numbers, from 0.
-#[derive(Clone, Copy)]
+#[derive(Clone, Copy, PartialEq, Eq)]
 pub enum Tag {
     // Contents that stand in the section as they are.
     PlainContents,
@@ -43,17 +43,7 @@ impl Tag {
     pub fn to_u32(self) -> u32
         ensures { result ≡ tag_number self }
     {
-        match self {
-            Tag::PlainContents => 0,
-            Tag::PackedContents => 1,
-            Tag::Names => 2,
-            Tag::Arguments => 3,
-            Tag::Unknown => 4,
-            Tag::Content => 5,
-            Tag::Name => 6,
-            Tag::Pair => 7,
-            Tag::None => 8,
-        }
+        self as u32
     }
 
     // The tag of the entries that may follow a row of this tag, if some may.
@@ -61,15 +51,10 @@ impl Tag {
         ensures { result ≡ entry_tag self }
     {
         match self {
-            Tag::PlainContents => Tag::Content,
-            Tag::Content => Tag::Content,
-            Tag::Names => Tag::Name,
-            Tag::Name => Tag::Name,
-            Tag::Arguments => Tag::Pair,
-            Tag::Pair => Tag::Pair,
-            Tag::PackedContents => Tag::None,
-            Tag::Unknown => Tag::None,
-            Tag::None => Tag::None,
+            Tag::PlainContents | Tag::Content => Tag::Content,
+            Tag::Names | Tag::Name => Tag::Name,
+            Tag::Arguments | Tag::Pair => Tag::Pair,
+            Tag::PackedContents | Tag::Unknown | Tag::None => Tag::None,
         }
     }
 
@@ -78,22 +63,17 @@ impl Tag {
         ensures { result ≡ begins_section self }
     {
         match self {
-            Tag::PlainContents => true,
-            Tag::PackedContents => true,
-            Tag::Names => true,
-            Tag::Arguments => true,
-            Tag::Unknown => true,
-            Tag::Content => false,
-            Tag::Name => false,
-            Tag::Pair => false,
-            Tag::None => false,
+            Tag::PlainContents | Tag::PackedContents | Tag::Names | Tag::Arguments | Tag::Unknown =>
+                true,
+            Tag::Content | Tag::Name | Tag::Pair | Tag::None => false,
         }
     }
 
-    // Whether two tags are the same.
+    // Whether two tags are the same, as `==` is.
+    #[tactic(auto, using(crate::proofs::Tags::same_tags))]
     pub fn same(self, other: Tag) -> bool
         ensures { result ≡ same_tag self other }
     {
-        self.to_u32() == other.to_u32()
+        self == other
     }
 }

@@ -33,6 +33,10 @@ module _ {before : List ℕ} {to : ℕ} where
         ends = omega (arith, s.ends, length-append bytes more);
       }
 
+  -- pieces that are a line are stored as the line
+  pub as-line : {bytes line output : List ℕ} {at : ℕ} → line ≡ bytes → Stored before to bytes output at → Stored before to line output at
+  as-line e s = record { is = s.is ∙ ap (sets before to) (sym e); ends = s.ends ∙ ap (λ (l : List ℕ). to + length l) (sym e) }
+
 -- ---- lines
 
 -- a field with its tab

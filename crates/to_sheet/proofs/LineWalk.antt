@@ -1,4 +1,4 @@
--- The lines of entries, of pairs and of sections, one after the other: what is left of them after a turn.
+-- The lines of entries and of pairs, one after the other: what is left of them after a turn.
 -- Assumes nothing.
 use Prim.Native.Nat.{ℕ, ◌+◌, ◌-◌, ◌≤◌, ◌<◌}
 use mathlib.Core.List.{List, [], ◌++◌, map, flat_map}
@@ -10,13 +10,11 @@ use Rattle.find.specs.Nul.{until_nul}
 use Rattle.find.proofs.NulLaws.{until-length}
 use Rattle.wire.specs.Length.{wire_size}
 use Rattle.wire.specs.Number.{u32_at}
-use Rattle.layout.proofs.Lists.{flat_map-append}
 use Rattle.format.specs.PublicFacts.{text_at, pairs_at}
 use Rattle.format.specs.Records.{Record, pair_record}
-use Rattle.format.proofs.Storing.{taken_from, taken_next, taken-end}
 use Rattle.format.proofs.Walking.{one_fewer, none_left}
 use Rattle.sheet.specs.Lines.{line}
-use Rattle.sheet.specs.SheetWalk.{entries_at, records_at}
+use Rattle.sheet.specs.SheetWalk.{entries_at}
 use Rattle.to_sheet.specs.Entry.{pair_line}
 
 module _ (p : List ℕ) (record_at : ℕ → Record) where
@@ -61,23 +59,6 @@ module _ (p : List ℕ) where
       let after : value_start at + length (text_at p (value_start at)) + 1 ≡ next_pair at = omega (arith, text-long (value_start at)) in
       ap (λ (n : ℕ). pair_lines n at) (one_fewer count done h) ∙ rw (there, after)
 
-  pub pairs_end_lem : (count done : ℕ) → count ≤ done → (at : ℕ) → pair_lines (count - done) at ≡ []
+  pub pairs-end : (count done : ℕ) → count ≤ done → (at : ℕ) → pair_lines (count - done) at ≡ []
   unfolding pairs_at flat_map
-  pairs_end_lem count done h at = ap (λ (n : ℕ). pair_lines n at) (none_left count done h)
-
--- ---- sections
-
-module _ (p : List ℕ) where
-  abbrev pub section_lines : ℕ → ℕ → List ℕ
-  section_lines count at = flat_map line (taken_from p (records_at p) count at)
-
-  pub sections-next :
-      (count done : ℕ) → done < count → (at : ℕ) →
-      section_lines (count - done) at ≡ flat_map line (records_at p at) ++ section_lines (count - (done + 1)) (at + u32_at p at)
-  sections-next count done h at =
-      ap (flat_map line) (taken_next p (records_at p) count done h at) ∙
-      flat_map-append line (records_at p at) (taken_from p (records_at p) (count - (done + 1)) (at + u32_at p at))
-
-  pub sections-end : (count done : ℕ) → count ≤ done → (at : ℕ) → section_lines (count - done) at ≡ []
-  unfolding flat_map
-  sections-end count done h at = ap (flat_map line) (taken-end p (records_at p) count done h at)
+  pairs-end count done h at = ap (λ (n : ℕ). pair_lines n at) (none_left count done h)

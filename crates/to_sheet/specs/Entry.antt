@@ -5,8 +5,8 @@ use Rattle.layout.specs.Spans.{part}
 use Rattle.format.specs.Records.{Record, pair_record}
 use Rattle.sheet.specs.Lines.{line}
 use Rattle.sheet.specs.SheetWalk.{content_at, name_at}
-use Rattle.to_sheet.specs.declared.entry.EntryKind.{EntryKind}
-use Rattle.to_sheet.specs.declared.entry.EntryKind.TheVariants.{Content, Name}
+use Rattle.section_reader.specs.declared.entry.EntryKind.{EntryKind}
+use Rattle.section_reader.specs.declared.entry.EntryKind.TheVariants.{Content, Name}
 
 -- three and a half times a payload's limit
 abbrev pub sheet_limit : ℕ

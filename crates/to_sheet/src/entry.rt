@@ -12,26 +12,9 @@ ghost use Rattle.sheet.specs.Lines.{line};
 ghost use Rattle.sheet.specs.SheetWalk.{entries_at};
 ghost use Rattle.to_sheet.specs.Entry.{sheet_limit, entry_at, pair_line};
 
+use layout::SourceInfoSectionType;
+use section_reader::{EntryKind, text_length};
 use wire::TextLength;
-
-// What the entries of a section are.
-#[derive(Clone, Copy)]
-pub enum EntryKind {
-    Content,
-    Name,
-}
-
-// The length of the text of an entry at a place; 0 where its size is 0, which the first pass refuses.
-fn text_length(payload: &[u8], at: usize) -> TextLength
-    requires { at ≤ limit }
-    ensures { result.0 ≡ u32_at payload.now (at + 8) - 1 }
-{
-    let size = wire::read_u32(payload, at + 8);
-    if size == 0 {
-        return TextLength(0);
-    }
-    TextLength(size - 1)
-}
 
 // The line of the entry at a place.
 fn write_entry(payload: &[u8], kind: EntryKind, at: usize, output: &mut [u8], to: usize) -> usize
@@ -44,7 +27,8 @@ fn write_entry(payload: &[u8], kind: EntryKind, at: usize, output: &mut [u8], to
     match kind {
         EntryKind::Content => {
             wire::write_bytes(output, to, b"content");
-            let end = field_writer::write_text(output, (to + 7) as u32, payload, at + 12, text);
+            let start = at + SourceInfoSectionType::CONTENT_ENTRY_HEADER_SIZE;
+            let end = field_writer::write_text(output, (to + 7) as u32, payload, start, text);
             wire::write_bytes(output, end, b"\n");
             end + 1
         }
@@ -52,7 +36,8 @@ fn write_entry(payload: &[u8], kind: EntryKind, at: usize, output: &mut [u8], to
             wire::write_bytes(output, to, b"name");
             let size = wire::read_u32(payload, at + 12);
             let next = field_writer::write_number(output, (to + 4) as u32, size);
-            let end = field_writer::write_text(output, next as u32, payload, at + 16, text);
+            let start = at + SourceInfoSectionType::NAME_ENTRY_HEADER_SIZE;
+            let end = field_writer::write_text(output, next as u32, payload, start, text);
             wire::write_bytes(output, end, b"\n");
             end + 1
         }
@@ -75,11 +60,9 @@ pub fn write_entries(
 {
     let mut at = start;
     let mut next = to;
-    let mut done: u32 = 0;
-    while done < count {
+    for done in 0..count {
         next = write_entry(payload, kind, at, output, next);
         at += wire::read_u32(payload, at) as usize;
-        done += 1;
     }
     next
 }
@@ -115,14 +98,12 @@ pub fn write_pairs(payload: &[u8], count: u32, start: usize, output: &mut [u8], 
 {
     let mut at = start;
     let mut next = to;
-    let mut done: u32 = 0;
-    while done < count {
+    for done in 0..count {
         let name = TextLength(find::find_nul_from(payload, at) as u32);
         let value_start = at + name.wire_size().0;
         let value = TextLength(find::find_nul_from(payload, value_start) as u32);
         next = write_pair(payload, at, name, value_start, value, output, next);
         at = value_start + value.wire_size().0;
-        done += 1;
     }
     next
 }

@@ -15,23 +15,18 @@ ghost use Rattle.std.specs.Prelude.{◌≡◌, length};
 ghost use Rattle.sheet.specs.ToSheet.{to_sheet_answer, to_sheet_output};
 
 use layout::{Answer, Refusal};
-use parse::Counted;
 
 // Writes the sheet of a payload to a lent output, whole, or refuses it and leaves the output as it was.
 pub fn to_sheet(payload: &[u8], output: &mut [u8]) -> Answer
     ensures value { result ≡ to_sheet_answer payload.now (length output.old) }
     ensures output_after { output.new ≡ to_sheet_output payload.now output.old }
 {
-    match parse::parse_srci(payload) {
-        Counted::Refused(refusal) => Answer::Refused(refusal),
-        Counted::Rows(_) => {
-            let size = source_info::write_sheet(payload, &mut output[..0]);
-            let room = output.len();
-            if room < size as usize {
-                return Answer::Refused(Refusal::NoRoom(size));
-            }
-            source_info::write_sheet(payload, output);
-            Answer::Accepted(size)
-        }
+    parse::parse_srci(payload)?;
+    let size = source_info::write_sheet(payload, &mut output[..0]);
+    let room = output.len();
+    if room < size as usize {
+        return Err(Refusal::NoRoom(size));
     }
+    source_info::write_sheet(payload, output);
+    Ok(size)
 }

@@ -1,9 +1,8 @@
 // The lines of sections, stored at a place of the output. Each function answers the place after what it stores.
-ghost use Rattle.std.specs.Prelude.{true, ◌≡◌, ◌+◌, ◌-◌, ◌≤◌, length};
+ghost use Rattle.std.specs.Prelude.{is_ok, true, ◌≡◌, ◌+◌, ◌≤◌, length};
 ghost use mathlib.Core.List.{flat_map};
 ghost use Rattle.std.proofs.lemmas.List.Edits.{sets};
 ghost use Rattle.wire.specs.Number.{u32_at};
-ghost use Rattle.layout.specs.Checked.{is_good};
 ghost use Rattle.format.specs.Encoding.{limit};
 ghost use Rattle.format.specs.Parse.{parse_contents, parse_section};
 ghost use Rattle.format.specs.Walk.{compression_at};
@@ -11,8 +10,9 @@ ghost use Rattle.sheet.specs.Lines.{line};
 ghost use Rattle.sheet.specs.SheetWalk.{packed_at, unknown_at, contents_records, section_records};
 ghost use Rattle.to_sheet.specs.Entry.{sheet_limit};
 
-use crate::entry::{EntryKind, write_entries, write_pairs};
+use crate::entry::{write_entries, write_pairs};
 use layout::{SourceCompression, SourceInfoSectionType};
+use section_reader::{EntryKind, body_size};
 
 // The line of the packed contents at a place.
 fn write_packed(payload: &[u8], at: usize, output: &mut [u8], to: usize) -> usize
@@ -35,14 +35,6 @@ fn write_packed(payload: &[u8], at: usize, output: &mut [u8], to: usize) -> usiz
     end + 1
 }
 
-// The bytes after a section's header, by its size.
-fn body_size(size: u32) -> u32
-    ensures { result ≡ size - 8 }
-{
-    let header = SourceInfoSectionType::SECTION_HEADER_SIZE as u32;
-    if size < header { 0 } else { size - header }
-}
-
 // The line of the section of an unknown kind at a place.
 fn write_unknown(payload: &[u8], kind: u16, at: usize, output: &mut [u8], to: usize) -> usize
     requires at_le_limit { at ≤ limit }
@@ -51,7 +43,7 @@ fn write_unknown(payload: &[u8], kind: u16, at: usize, output: &mut [u8], to: us
     ensures output_after { output.new ≡ sets output.old to (line (unknown_at payload.now kind at)) }
 {
     let header = SourceInfoSectionType::SECTION_HEADER_SIZE;
-    let bytes = body_size(wire::read_u32(payload, at));
+    let bytes = body_size(payload, at);
     wire::write_bytes(output, to, b"unknown");
     let next = field_writer::write_number(output, (to + 7) as u32, kind as u32);
     let end = field_writer::write_hex(output, next as u32, payload, at + header, bytes);
@@ -61,7 +53,7 @@ fn write_unknown(payload: &[u8], kind: u16, at: usize, output: &mut [u8], to: us
 
 // The lines of the contents at a place.
 fn write_contents(payload: &[u8], at: usize, output: &mut [u8], to: usize) -> usize
-    requires at_value { is_good (parse_contents payload.now at (u32_at payload.now at)) ≡ true }
+    requires at_value { is_ok (parse_contents payload.now at (u32_at payload.now at)) ≡ true }
     requires at_bound { at + u32_at payload.now at ≤ limit }
     requires at_bound_2 { to + length (flat_map line (contents_records payload.now (compression_at payload.now at) at)) ≤ sheet_limit }
     ensures value { result ≡ to + length (flat_map line (contents_records payload.now (compression_at payload.now at) at)) }
@@ -89,7 +81,7 @@ pub fn write_section(
     output: &mut [u8],
     to: usize,
 ) -> usize
-    requires at_value { is_good (parse_section kind payload.now at (u32_at payload.now at)) ≡ true }
+    requires at_value { is_ok (parse_section kind payload.now at (u32_at payload.now at)) ≡ true }
     requires at_in_bounds { at + u32_at payload.now at ≤ length payload.now }
     requires payload_len_bound { length payload.now ≤ limit }
     requires at_bound { to + length (flat_map line (section_records payload.now kind at)) ≤ sheet_limit }

@@ -1,8 +1,7 @@
 // The whole sheet of a payload, by a walk that tests nothing: the payload was checked before.
-ghost use Rattle.std.specs.Prelude.{true, ◌≡◌, ◌≤◌, length};
+ghost use Rattle.std.specs.Prelude.{is_ok, true, ◌≡◌, ◌≤◌, length};
 ghost use mathlib.Core.List.{flat_map};
 ghost use Rattle.std.proofs.lemmas.List.Edits.{sets};
-ghost use Rattle.layout.specs.Checked.{is_good};
 ghost use Rattle.format.specs.Encoding.{limit};
 ghost use Rattle.format.specs.Parse.{parse_sections, parse};
 ghost use Rattle.format.specs.Walk.{places_from};
@@ -11,32 +10,26 @@ ghost use Rattle.sheet.specs.SheetWalk.{records_at, sheet_lines};
 ghost use Rattle.to_sheet.specs.Entry.{sheet_limit};
 
 use crate::section::write_section;
-use layout::SourceInfoSectionType;
+use section_reader::Sections;
 
 // The lines of so many sections, from the output's start on. Answers the place after them.
 fn write_sections(payload: &[u8], count: u16, output: &mut [u8]) -> usize
-    requires payload_value { is_good (parse_sections count payload.now 8) ≡ true }
-    requires in_bounds { 8 ≤ length payload.now }
+    requires payload_value { is_ok (parse_sections count payload.now 8) ≡ true }
     requires payload_len_bound { length payload.now ≤ limit }
     requires count_len_bound { length (flat_map line (flat_map (records_at payload.now) (places_from payload.now count 8))) ≤ sheet_limit }
     ensures value { result ≡ length (flat_map line (flat_map (records_at payload.now) (places_from payload.now count 8))) }
     ensures output_after { output.new ≡ sets output.old 0 (flat_map line (flat_map (records_at payload.now) (places_from payload.now count 8))) }
 {
-    let mut at = SourceInfoSectionType::MAIN_HEADER_SIZE;
     let mut to = 0;
-    let mut done: u16 = 0;
-    while done < count {
-        let kind = SourceInfoSectionType::from_u16(wire::read_u16(payload, at + 6));
-        to = write_section(payload, kind, at, output, to);
-        at += wire::read_u32(payload, at) as usize;
-        done += 1;
+    for section in Sections::new(payload, count) {
+        to = write_section(payload, section.kind, section.at, output, to);
     }
     to
 }
 
 // The sheet, from the output's start on, as far as the output goes. Answers its length.
 pub fn write_sheet(payload: &[u8], output: &mut [u8]) -> u32
-    requires payload_value { is_good (parse payload.now) ≡ true }
+    requires payload_value { is_ok (parse payload.now) ≡ true }
     requires payload_len_bound { length (sheet_lines payload.now) ≤ sheet_limit }
     ensures value { result ≡ length (sheet_lines payload.now) }
     ensures output_after { output.new ≡ sets output.old 0 (sheet_lines payload.now) }

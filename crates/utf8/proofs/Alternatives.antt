@@ -8,8 +8,11 @@ use Prim.Native.Nat.{ℕ, zero, suc, ◌+◌, ◌≤◌, ◌<◌, zero-le, suc-l
 use native.Mathlib.Nat.{le_of_suc-le-suc, not-suc-le-zero}
 use native.Mathlib.Omega.{arith}
 use lib.Dec.{T, leb, ltb, ltb→lt}
-use lib.ListN.{length, drop}
-use lib.Seq.{drop-drop}
+use lib.ListN.{length, get_or, drop}
+use lib.Seq.{drop-cons, drop-drop}
+use native.Mathlib.Numerals.{add-one}
+use Rattle.std.specs.List.{between}
+use Rattle.std.proofs.lemmas.Slice.{between_to_end}
 use borrow.Author.Tests.{leb-true, lt-leb}
 use Rattle.utf8.specs.Rfc3629.{Range, within, begins, first_length, alternatives, char_length}
 use Rattle.utf8.specs.Classes.{place_in, class_of, length_after}
@@ -72,6 +75,15 @@ place-length ((r ∷ rs) ∷ rest) t b s = go (within r b) refl (place-length re
 pub class-length : (b : ℕ) (s : List ℕ) → char_length (b ∷ s) ≡ length_at (class_of b) alternatives s
 unfolding char_length class_of
 class-length b s = place-length alternatives tt b s
+
+-- the same at a place of a text, where the class was found to be n
+pub at-class : (s : List ℕ) (i n k : ℕ) → i < length s → k ≡ class_of (get_or s i 0) → k ≡ n → length_at n alternatives (between (i + 1) (length s) s) ≡ char_length (drop i s)
+at-class s i n k h e f =
+    ap (length_at n alternatives) (between_to_end s (i + 1) (length s) (omega arith)) ∙
+    ap (λ (m : ℕ). length_at m alternatives (drop (i + 1) s)) (sym f ∙ e) ∙
+    sym (class-length (get_or s i 0) (drop (i + 1) s)) ∙
+    ap (λ (m : ℕ). char_length (get_or s i 0 ∷ drop m s)) (add-one i) ∙
+    ap char_length (sym (drop-cons s i 0 h))
 
 pub length-past : (n : ℕ) (alts : List (List Range)) (s : List ℕ) → length alts ≤ n → length_at n alts s ≡ 0
 unfolding length_at

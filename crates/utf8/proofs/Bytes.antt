@@ -1,5 +1,7 @@
 -- Well-formed text is bytes: every range of the grammar ends below 256.
 -- Assumes nothing.
+use Rattle.utf8.specs.declared.Utf8Error.{Utf8Error}
+use Rattle.std.specs.Prelude.{Err, Result, Ok}
 use mathlib.Core.Path.{◌≡◌, refl}
 use mathlib.Core.Bool.{Bool, true, false, ◌&&◌, and-eq-true_iff}
 use mathlib.Core.List.{List, [], ◌∷◌}
@@ -8,9 +10,7 @@ use native.Mathlib.Omega.{arith}
 use lib.Dec.{ltb}
 use lib.ListN.{length, get_or}
 use borrow.Author.Tests.{ltb-true}
-use Rattle.utf8.specs.declared.Utf8.{Utf8}
-use Rattle.utf8.specs.declared.Utf8.TheVariants.{WellFormed, IllFormed}
-use Rattle.utf8.specs.Rfc3629.{Range, alternatives, within, begins, first_length, char_length, octets_from, utf8_of, well_formed}
+use Rattle.utf8.specs.Rfc3629.{Range, alternatives, within, begins, first_length, char_length, octets_from, utf8_of, well_formed, ill_formed}
 use Rattle.utf8.proofs.Alternatives.{within-high}
 use Rattle.utf8.proofs.Laws.{not-well-formed}
 
@@ -57,7 +57,7 @@ unfolding char_length
 char-low s k h = first-low alternatives refl s k h
 
 -- characters, after the rest of one that was met already
-octets-low : (skip at : ℕ) (s : List ℕ) → octets_from skip at s ≡ WellFormed → ((k : ℕ) → k < skip → get_or s k 0 < 256) → (k : ℕ) → get_or s k 0 < 256
+octets-low : (skip at : ℕ) (s : List ℕ) → octets_from skip at s ≡ Ok tt → ((k : ℕ) → k < skip → get_or s k 0 < 256) → (k : ℕ) → get_or s k 0 < 256
 unfolding octets_from
 octets-low skip at [] e h k = omega arith
 octets-low (suc skip) at (b ∷ s) e h zero = h 0 (omega arith)
@@ -67,8 +67,8 @@ octets-low zero at (b ∷ s) e h k = go (char_length (b ∷ s)) (char-low (b ∷
     go :
         (n : ℕ) →
         ((k : ℕ) → k < n → get_or (b ∷ s) k 0 < 256) →
-        elim n as (λ _. Utf8) [ zero ↦ IllFormed at | suc n ↦ octets_from n (at + 1) s ] ≡ WellFormed →
-        ((n : ℕ) → octets_from n (at + 1) s ≡ WellFormed → ((k : ℕ) → k < n → get_or s k 0 < 256) → (k : ℕ) → get_or s k 0 < 256) →
+        elim n as (λ _. Result (Unit {0}) Utf8Error) [ zero ↦ ill_formed at | suc n ↦ octets_from n (at + 1) s ] ≡ Ok tt →
+        ((n : ℕ) → octets_from n (at + 1) s ≡ Ok tt → ((k : ℕ) → k < n → get_or s k 0 < 256) → (k : ℕ) → get_or s k 0 < 256) →
         (k : ℕ) → get_or (b ∷ s) k 0 < 256
     go zero h f rest k = let z : ◌≡◌ {A = ℕ} 0 1 = cc in absurd (omega arith)
     go (suc n) h f rest zero = h 0 (omega arith)
@@ -78,9 +78,9 @@ pub well-formed-bytes : (s : List ℕ) → well_formed s ≡ true → (k : ℕ) 
 unfolding utf8_of
 well-formed-bytes s e = go (utf8_of s) refl
   where
-    go : (u : Utf8) → utf8_of s ≡ u → (k : ℕ) → get_or s k 0 < 256
-    go WellFormed f = octets-low 0 0 s f (λ k l. absurd (omega arith))
-    go (IllFormed at) f =
-        let no = not-well-formed s at f in
+    go : (u : Result (Unit {0}) Utf8Error) → utf8_of s ≡ u → (k : ℕ) → get_or s k 0 < 256
+    go (Ok a) f = octets-low 0 0 s f (λ k l. absurd (omega arith))
+    go (Err error) f =
+        let no = not-well-formed s error.valid_up_to f in
         let z : ◌≡◌ {A = ℕ} 0 1 = cc in
         absurd (omega arith)

@@ -1,6 +1,7 @@
 -- What a caller of `utf8::validate` may want to know: that text is well formed just where it answers so, and that
 -- empty text and text of ASCII alone are.
 -- Assumes nothing.
+use Rattle.std.specs.Prelude.{Ok}
 use mathlib.Core.Path.{◌≡◌, refl, sym, ◌∙◌}
 use mathlib.Core.Bool.{true, false}
 use mathlib.Core.List.{List, []}
@@ -8,15 +9,14 @@ use Prim.Native.Nat.{ℕ, ◌+◌, ◌<◌}
 use native.Mathlib.Nat.{zero-add}
 use native.Mathlib.Omega.{arith}
 use lib.ListN.{length, get_or}
-use Rattle.utf8.specs.declared.Utf8.TheVariants.{WellFormed, IllFormed}
-use Rattle.utf8.specs.Rfc3629.{octets_from, utf8_of, well_formed}
+use Rattle.utf8.specs.Rfc3629.{octets_from, utf8_of, well_formed, ill_formed}
 use Rattle.utf8.proofs.Octets.{ascii_run, ended}
 
-pub well-formed : (s : List ℕ) → utf8_of s ≡ WellFormed → well_formed s ≡ true
+pub well-formed : (s : List ℕ) → utf8_of s ≡ Ok tt → well_formed s ≡ true
 unfolding well_formed
 well-formed s e = rw e
 
-pub not-well-formed : (s : List ℕ) (at : ℕ) → utf8_of s ≡ IllFormed at → well_formed s ≡ false
+pub not-well-formed : (s : List ℕ) (at : ℕ) → utf8_of s ≡ ill_formed at → well_formed s ≡ false
 unfolding well_formed
 not-well-formed s at e = rw e
 

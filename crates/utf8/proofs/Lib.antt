@@ -1,3 +1,4 @@
+pub mod After
 pub mod Alternatives
 pub mod Bytes
 pub mod ClassTable

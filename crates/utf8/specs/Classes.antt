@@ -1,6 +1,6 @@
 -- The class of a byte value: the place, from 0, of the first alternative of UTF8-char in RFC 3629 that the byte can
 -- begin. Past all of them comes the class of UTF8-tail, and last that of the bytes that no rule has.
-use Rattle.std.specs.Prelude.{ℕ, suc, ◌<◌, ◌≡◌, List, [], ◌∷◌, Bool, true, false, length, get_or}
+use Rattle.std.specs.Prelude.{ℕ, zero, suc, ◌<◌, ◌≡◌, List, [], ◌∷◌, Bool, true, false, Option, Some, None, length, get_or}
 use Rattle.utf8.specs.Rfc3629.{Range, tail, alternatives, within, begins}
 
 -- whether a byte can begin an alternative
@@ -23,3 +23,8 @@ pub record ClassTable (table : List ℕ) : Type 0 where
 -- begin with such bytes
 unfoldable pub length_after : List Range → List ℕ → ℕ
 length_after rs s = elim (begins rs s) [ true ↦ suc (length rs) | false ↦ 0 ]
+
+-- a length, where it is not that of nothing
+abbrev pub nonzero : ℕ → Option ℕ
+nonzero zero = None
+nonzero (suc n) = Some (suc n)

@@ -9,9 +9,8 @@
 --     UTF8-4      = %xF0 %x90-BF 2( UTF8-tail ) / %xF1-F3 3( UTF8-tail ) /
 --                   %xF4 %x80-8F 2( UTF8-tail )
 --     UTF8-tail   = %x80-BF
-use Rattle.std.specs.Prelude.{ℕ, zero, suc, ◌+◌, List, [], ◌∷◌, Bool, true, false, ◌&&◌, leb, length}
-use Rattle.utf8.specs.declared.Utf8.{Utf8}
-use Rattle.utf8.specs.declared.Utf8.TheVariants.{WellFormed, IllFormed}
+use Rattle.utf8.specs.declared.Utf8Error.{Utf8Error}
+use Rattle.std.specs.Prelude.{ℕ, zero, suc, ◌+◌, List, [], ◌∷◌, Bool, true, false, ◌&&◌, leb, length, Result, Ok, Err, is_ok}
 
 -- a range of byte values, both ends within it
 pub record Range : Type 0 where
@@ -56,22 +55,21 @@ first_length (rs ∷ rest) s = elim (begins rs s) [ true ↦ length rs | false �
 unfoldable pub char_length : List ℕ → ℕ
 char_length s = first_length alternatives s
 
+-- bytes that are well formed up to a place, at which the first ill-formed sequence begins
+abbrev pub ill_formed : ℕ → Result (Unit {0}) Utf8Error
+ill_formed at = Err (record { valid_up_to = at })
+
 -- Reads the bytes from place at on as UTF8-octets, the first skip of them being the rest of a character
 -- that was met already: the place at which no UTF8-char begins, if there is one.
-unfoldable pub octets_from : ℕ → ℕ → List ℕ → Utf8
-octets_from skip at [] = WellFormed
+unfoldable pub octets_from : ℕ → ℕ → List ℕ → Result (Unit {0}) Utf8Error
+octets_from skip at [] = Ok tt
 octets_from (suc skip) at (b ∷ s) = octets_from skip (at + 1) s
-octets_from zero at (b ∷ s) = elim (char_length (b ∷ s)) [ zero ↦ IllFormed at | suc n ↦ octets_from n (at + 1) s ]
+octets_from zero at (b ∷ s) = elim (char_length (b ∷ s)) [ zero ↦ ill_formed at | suc n ↦ octets_from n (at + 1) s ]
 
 -- whether the bytes are UTF8-octets, or the place at which the first ill-formed sequence begins
-unfoldable pub utf8_of : List ℕ → Utf8
+unfoldable pub utf8_of : List ℕ → Result (Unit {0}) Utf8Error
 utf8_of s = octets_from 0 0 s
-
-is_well_formed : Utf8 → Bool
-is_well_formed WellFormed = true
-is_well_formed (IllFormed at) = false
 
 -- whether the bytes are UTF8-octets
 unfoldable pub well_formed : List ℕ → Bool
-unfolding is_well_formed
-well_formed s = is_well_formed (utf8_of s)
+well_formed s = is_ok (utf8_of s)

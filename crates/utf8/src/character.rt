@@ -1,80 +1,54 @@
 // The character at a place, by the class of its first byte and the ranges of the bytes after it.
-ghost use Rattle.std.specs.Prelude.{◌≡◌, [], ◌∷◌, ◌≤◌, ◌<◌, length as List·length, drop};
-ghost use Rattle.utf8.specs.Rfc3629.{to, tail, begins, char_length};
-ghost use Rattle.utf8.specs.Classes.{ClassTable, length_after};
+ghost use Rattle.std.specs.Prelude.{◌≡◌, ◌∷◌, ◌<◌, replicate, length as List·length, drop};
+ghost use Rattle.std.specs.List.{list_all};
+ghost use Rattle.utf8.specs.Rfc3629.{to, tail, within, char_length};
+ghost use Rattle.utf8.specs.Classes.{ClassTable, length_after, nonzero};
 
 use crate::classes::class;
 
-// The length of the character at place at, or 0 where none begins there.
-pub fn length(text: &[u8], at: usize, table: &[u8; 256]) -> usize
+// The length of the character at place at, where one begins there.
+pub fn length(text: &[u8], at: usize, table: &[u8; 256]) -> Option<usize>
     requires at_bound { at < List·length text.now }
     requires class_table { ClassTable table.now }
-    ensures { result ≡ char_length (drop at text.now) }
+    ensures { result ≡ nonzero (char_length (drop at text.now)) }
 {
-    let next = at + 1;
+    let rest = &text[at + 1..];
     match class(table, text[at]) {
-        0 => 1,
-        1 => two(text, next),
-        2 => three(text, next, 0xA0, 0xBF),
-        3 | 5 => three(text, next, 0x80, 0xBF),
-        4 => three(text, next, 0x80, 0x9F),
-        6 => four(text, next, 0x90, 0xBF),
-        7 => four(text, next, 0x80, 0xBF),
-        8 => four(text, next, 0x80, 0x8F),
-        _ => 0,
+        0 => Some(1),
+        1 => after::<0>(rest, 0x80, 0xBF),
+        2 => after::<1>(rest, 0xA0, 0xBF),
+        3 | 5 => after::<1>(rest, 0x80, 0xBF),
+        4 => after::<1>(rest, 0x80, 0x9F),
+        6 => after::<2>(rest, 0x90, 0xBF),
+        7 => after::<2>(rest, 0x80, 0xBF),
+        8 => after::<2>(rest, 0x80, 0x8F),
+        9.. => None,
     }
 }
 
-// The three below answer the length of a character whose first byte was met, and whose other bytes
-// stand from place at on, or 0 where they do not. The first of those lies from low to high.
-
-fn two(text: &[u8], at: usize) -> usize
-    ensures { result ≡ length_after (tail ∷ []) (drop at text.now) }
+// The length of a character whose first byte was met, and whose other bytes begin the rest of the text: one from low to
+// high, and then TAILS of UTF8-tail.
+fn after<const TAILS: usize>(rest: &[u8], low: u8, high: u8) -> Option<usize>
+    requires { TAILS < 3 }
+    ensures { result ≡ nonzero (length_after (to low high ∷ replicate TAILS tail) rest.now) }
 {
-    if byte_in(text, at, 0x80, 0xBF) { 2 } else { 0 }
-}
-
-fn three(text: &[u8], at: usize, low: u8, high: u8) -> usize
-    requires { at ≤ List·length text.now }
-    ensures { result ≡ length_after (to low high ∷ tail ∷ []) (drop at text.now) }
-{
-    if !byte_in(text, at, low, high) {
-        return 0;
-    }
-    if byte_in(text, at + 1, 0x80, 0xBF) {
-        3
+    let (first, others) = rest.split_first()?;
+    let tails = others.get(..TAILS)?;
+    if lies_in(*first, low, high) && are_tails(tails) {
+        Some(2 + TAILS)
     } else {
-        0
+        None
     }
 }
 
-fn four(text: &[u8], at: usize, low: u8, high: u8) -> usize
-    requires { at ≤ List·length text.now }
-    ensures { result ≡ length_after (to low high ∷ tail ∷ tail ∷ []) (drop at text.now) }
+fn are_tails(bytes: &[u8]) -> bool
+    ensures { result ≡ list_all (within tail) bytes.now }
 {
-    if !byte_in(text, at, low, high) {
-        return 0;
-    }
-    if !byte_in(text, at + 1, 0x80, 0xBF) {
-        return 0;
-    }
-    if byte_in(text, at + 2, 0x80, 0xBF) {
-        4
-    } else {
-        0
-    }
+    bytes.iter().all(|byte| lies_in(*byte, 0x80, 0xBF))
 }
 
-// Whether there is a byte at place at, and it lies from low to high.
-fn byte_in(text: &[u8], at: usize, low: u8, high: u8) -> bool
-    ensures { result ≡ begins (to low high ∷ []) (drop at text.now) }
+fn lies_in(byte: u8, low: u8, high: u8) -> bool
+    ensures { result ≡ within (to low high) byte }
 {
-    if text.len() <= at {
-        return false;
-    }
-    let byte = text[at];
-    if byte < low {
-        return false;
-    }
-    byte <= high
+    low <= byte && byte <= high
 }

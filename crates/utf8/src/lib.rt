@@ -12,24 +12,23 @@ ghost use Rattle.std.specs.Prelude.{◌≡◌, drop};
 ghost use Rattle.utf8.specs.Rfc3629.{octets_from};
 ghost use Rattle.utf8.specs.Classes.{ClassTable};
 
-// What the check answers.
-#[derive(Clone, Copy)]
-pub enum Utf8 {
-    WellFormed,
-    // The first ill-formed sequence begins at this byte, and all before it is well formed.
-    IllFormed(usize),
+// Why bytes are no text: the first ill-formed sequence begins at this byte, and all before it is well formed.
+#[derive(Clone, Copy, Debug, PartialEq, Eq)]
+pub struct Utf8Error {
+    pub valid_up_to: usize,
 }
 
 // Reads on from a place, and lends the table of classes. A table is made at the start of the function
 // that names it: here, once for a text and not for each character. Past the end of a text there is nothing to read.
-pub fn read_with_table(text: &[u8], from: usize) -> Utf8
+pub fn read_with_table(text: &[u8], from: usize) -> Result<(), Utf8Error>
     ensures { result ≡ octets_from 0 from (drop from text.now) }
 {
     read_octets(text, from, &classes::CLASSES)
 }
 
-// Reads on from a place, over each character by the class of its first byte.
-fn read_octets(text: &[u8], from: usize, table: &[u8; 256]) -> Utf8
+// Reads on from a place, over each character by the class of its first byte. The place moves on by a length that is read,
+// so that no iterator of the library goes this way.
+fn read_octets(text: &[u8], from: usize, table: &[u8; 256]) -> Result<(), Utf8Error>
     requires { ClassTable table.now }
     ensures { result ≡ octets_from 0 from (drop from text.now) }
 {
@@ -38,12 +37,11 @@ fn read_octets(text: &[u8], from: usize, table: &[u8; 256]) -> Utf8
         if text[at] < 0x80 {
             at += 1;
         } else {
-            let count = character::length(text, at, table);
-            if count == 0 {
-                return Utf8::IllFormed(at);
+            match character::length(text, at, table) {
+                Some(count) => at += count,
+                None => return Err(Utf8Error { valid_up_to: at }),
             }
-            at += count;
         }
     }
-    Utf8::WellFormed
+    Ok(())
 }

@@ -6,8 +6,6 @@ ghost use Rattle.std.specs.Prelude.{◌≡◌};
 ghost use Rattle.utf8.specs.Rfc3629.{utf8_of};
 ghost use Rattle.utf8_host.specs.Told.{number, place};
 
-use utf8::Utf8;
-
 // Answers 0 for a text that is well formed. Else answers 1, and stores in `at` the place of the first ill-formed
 // sequence.
 #[unsafe(no_mangle)]
@@ -16,9 +14,9 @@ pub extern "C" fn utf8_validate(text: &[u8], at: &mut usize) -> u32
     ensures at_after { at.new ≡ place (utf8_of text.now) at.old }
 {
     match validate::validate(text) {
-        Utf8::WellFormed => 0,
-        Utf8::IllFormed(place) => {
-            *at = place;
+        Ok(()) => 0,
+        Err(error) => {
+            *at = error.valid_up_to;
             1
         }
     }

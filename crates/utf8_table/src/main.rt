@@ -28,36 +28,32 @@ fn bytes(number: u64) -> [u8; 4] {
 // The place of the first ill-formed sequence, or the length of the text where there is none.
 fn well_formed_up_to(text: &[u8]) -> usize {
     match validate::validate(text) {
-        utf8::Utf8::WellFormed => text.len(),
-        utf8::Utf8::IllFormed(at) => at,
+        Ok(()) => text.len(),
+        Err(error) => error.valid_up_to,
     }
 }
 
 // How many of the numbers from low on and below high are well formed up to end, as the string of
 // their bytes from place start on.
-fn count(low: u64, high: u64, start: usize, end: usize) -> u64
+fn count(low: u64, high: u64, start: usize, end: usize) -> usize
     requires { start ≤ 4 }
 {
-    let mut found: u64 = 0;
-    let mut number = low;
-    while number < high {
-        let text = bytes(number);
-        if well_formed_up_to(&text[start..]) == end {
-            found += 1;
-        }
-        number += 1;
-    }
-    found
+    (low..high)
+        .filter(|number| well_formed_up_to(&bytes(*number)[start..]) == end)
+        .count()
 }
 
-fn print_count(rt: &impl Print, name: &str, found: u64) -> io::Result<()> {
+fn print_count(rt: &impl Print, name: &str, found: usize) -> io::Result<()> {
     println!(rt; "{name}{found}")
 }
 
 fn print_answer(rt: &impl Print, name: &str, text: &[u8]) -> io::Result<()> {
     match validate::validate(text) {
-        utf8::Utf8::WellFormed => println!(rt; "{name}well formed"),
-        utf8::Utf8::IllFormed(at) => println!(rt; "{name}ill formed at {at}"),
+        Ok(()) => println!(rt; "{name}well formed"),
+        Err(error) => {
+            let at = error.valid_up_to;
+            println!(rt; "{name}ill formed at {at}")
+        }
     }
 }
 

@@ -1,7 +1,8 @@
 -- The first part of a text, by the local rule: where every place of it is right and no character is open after it, reading on from there gives the
 -- answer for the whole text. By `RuleGrammar.antt` that part is UTF8-octets, and what is UTF8-octets is passed over whatever follows it.
 -- Assumes nothing.
-use Rattle.std.specs.Prelude.{◌≡◌, ℕ, zero, suc, ◌+◌, ◌<◌, ◌≤◌, Bool, true, false, ◌&&◌, List, [], ◌∷◌, ◌++◌, length, get_or, take, drop}
+use Rattle.utf8.specs.declared.Utf8Error.{Utf8Error}
+use Rattle.std.specs.Prelude.{Err, ◌≡◌, ℕ, zero, suc, ◌+◌, ◌<◌, ◌≤◌, Bool, true, false, ◌&&◌, List, [], ◌∷◌, ◌++◌, length, get_or, take, drop, Result, Ok}
 use mathlib.Core.Path.{refl, sym, ◌∙◌, ap}
 use mathlib.Core.Bool.{true≢false}
 use Prim.Native.Nat.{zero-le, suc-le-suc}
@@ -9,9 +10,7 @@ use native.Mathlib.Nat.{add-zero, not-suc-le-zero, le_of_suc-le-suc}
 use native.Mathlib.Omega.{arith}
 use lib.ListN.{take-append-drop}
 use lib.Seq.{length-take-le}
-use Rattle.utf8.specs.declared.Utf8.{Utf8}
-use Rattle.utf8.specs.declared.Utf8.TheVariants.{WellFormed, IllFormed}
-use Rattle.utf8.specs.Rfc3629.{Range, alternatives, within, begins, char_length, octets_from, utf8_of}
+use Rattle.utf8.specs.Rfc3629.{Range, alternatives, within, begins, char_length, octets_from, utf8_of, ill_formed}
 use Rattle.utf8.specs.Classes.{class_of, length_after}
 use Rattle.validate.specs.Rule.{due, right, right_from, right_at, open_at}
 use Rattle.utf8.proofs.Alternatives.{length_at, class-length, char-length}
@@ -48,17 +47,17 @@ char-more b u v n e = class-length b (u ++ v) ∙ length_more (class_of b) alter
 
 -- ---- UTF8-octets are passed over, whatever follows them
 
-abbrev pick : ℕ → ℕ → List ℕ → Utf8
-pick n i s = elim n [ zero ↦ IllFormed i | suc k ↦ octets_from k (i + 1) s ]
+abbrev pick : ℕ → ℕ → List ℕ → Result (Unit {0}) Utf8Error
+pick n i s = elim n [ zero ↦ ill_formed i | suc k ↦ octets_from k (i + 1) s ]
 
-passes : (u : List ℕ) (k at : ℕ) (v : List ℕ) → k ≤ length u → octets_from k at u ≡ WellFormed → octets_from k at (u ++ v) ≡ octets_from 0 (at + length u) v
+passes : (u : List ℕ) (k at : ℕ) (v : List ℕ) → k ≤ length u → octets_from k at u ≡ Ok tt → octets_from k at (u ++ v) ≡ octets_from 0 (at + length u) v
 unfolding octets_from
 passes [] zero at v h e = ap (λ (n : ℕ). octets_from 0 n v) (sym (add-zero at))
 passes [] (suc k) at v h e = absurd (not-suc-le-zero h)
 passes (b ∷ u) (suc k) at v h e = passes u k (at + 1) v (le_of_suc-le-suc h) e ∙ ap (λ (n : ℕ). octets_from 0 n v) (let q : at + 1 + length u ≡ at + suc (length u) = omega arith in q)
 passes (b ∷ u) zero at v h e = go (char_length (b ∷ u)) refl e (λ n. passes u n (at + 1) v)
   where
-    go : (m : ℕ) → char_length (b ∷ u) ≡ m → pick m at u ≡ WellFormed → ((n : ℕ) → n ≤ length u → octets_from n (at + 1) u ≡ WellFormed → octets_from n (at + 1) (u ++ v) ≡ octets_from 0 (at + 1 + length u) v)
+    go : (m : ℕ) → char_length (b ∷ u) ≡ m → pick m at u ≡ Ok tt → ((n : ℕ) → n ≤ length u → octets_from n (at + 1) u ≡ Ok tt → octets_from n (at + 1) (u ++ v) ≡ octets_from 0 (at + 1 + length u) v)
         → pick (char_length (b ∷ (u ++ v))) at (u ++ v) ≡ octets_from 0 (at + suc (length u)) v
     go zero q e on = let z : ◌≡◌ {A = ℕ} 0 1 = cc in absurd (omega arith)
     go (suc n) q e on =
@@ -85,11 +84,11 @@ module _ (s : List ℕ) where
   unfolding right_at open_at utf8_of
   passed r h all shut =
       let part : List ℕ = take r s in
-      let well : octets_from 0 0 part ≡ WellFormed = told (octets_from 0 0 part) refl (sym (agrees (length part) part (omega arith) 0 0 0 0 (unfold due in refl)) ∙ prefix s r 0 0 0 h all shut) in
+      let well : octets_from 0 0 part ≡ Ok tt = told (octets_from 0 0 part) refl (sym (agrees (length part) part (omega arith) 0 0 0 0 (unfold due in refl)) ∙ prefix s r 0 0 0 h all shut) in
       ap (λ (n : ℕ). octets_from 0 n (drop r s)) (let e : r ≡ 0 + length part = omega (arith, length-take-le r s h) in e) ∙
       sym (passes part 0 0 (drop r s) zero-le well) ∙
       ap (octets_from 0 0) (take-append-drop r s)
     where
-      told : (u : Utf8) → octets_from 0 0 (take r s) ≡ u → formed u ≡ true → octets_from 0 0 (take r s) ≡ WellFormed
-      told WellFormed e t = e
-      told (IllFormed at) e t = absurd (true≢false (sym t))
+      told : (u : Result (Unit {0}) Utf8Error) → octets_from 0 0 (take r s) ≡ u → formed u ≡ true → octets_from 0 0 (take r s) ≡ Ok tt
+      told (Ok a) e t = e
+      told (Err error) e t = absurd (true≢false (sym t))

@@ -1,7 +1,8 @@
 -- The local rule is RFC 3629's. After a character's first byte the rule asks for the ranges of the other bytes of its alternative, one by one
 -- (`Owes`), and after the last of them nothing is open again; so a text obeys the rule exactly where it is UTF8-octets.
 -- Assumes nothing.
-use Rattle.std.specs.Prelude.{◌≡◌, ℕ, zero, suc, ◌+◌, ◌<◌, ◌≤◌, Bool, true, false, ◌&&◌, ◌||◌, leb, List, [], ◌∷◌, length, get_or, drop}
+use Rattle.utf8.specs.declared.Utf8Error.{Utf8Error}
+use Rattle.std.specs.Prelude.{Err, ◌≡◌, ℕ, zero, suc, ◌+◌, ◌<◌, ◌≤◌, Bool, true, false, ◌&&◌, ◌||◌, leb, List, [], ◌∷◌, length, get_or, drop, Result, Ok}
 use mathlib.Core.Path.{refl, sym, ◌∙◌, ap}
 use mathlib.Core.Bool.{true≢false}
 use Prim.Native.Nat.{zero-le}
@@ -9,9 +10,7 @@ use native.Mathlib.Nat.{not-suc-le-zero, le_of_suc-le-suc}
 use native.Mathlib.Omega.{arith}
 use lib.ListN.{length-drop}
 use borrow.Author.Tests.{leb-true, leb-false, le-leb, lt-leb, eq-eqb, ne_eqb}
-use Rattle.utf8.specs.declared.Utf8.{Utf8}
-use Rattle.utf8.specs.declared.Utf8.TheVariants.{WellFormed, IllFormed}
-use Rattle.utf8.specs.Rfc3629.{Range, to, tail, alternatives, within, begins, char_length, octets_from, utf8_of, well_formed}
+use Rattle.utf8.specs.Rfc3629.{Range, to, tail, alternatives, within, begins, char_length, octets_from, utf8_of, well_formed, ill_formed}
 use Rattle.utf8.specs.Classes.{opens, place_in, class_of, length_after}
 use Rattle.validate.specs.Rule.{due, follows, leads, right, right_from, ruled, RuleIsGrammar}
 use Rattle.utf8.proofs.Alternatives.{length_at, class-length, length-past}
@@ -206,9 +205,9 @@ no_lead b (n0, (n1, (n2, (n3, (n4, (n5, (n6, (n7, (n8, _))))))))) = rw n0 (go (l
 
 -- ---- texts
 
-abbrev pub formed : Utf8 → Bool
-formed WellFormed = true
-formed (IllFormed at) = false
+abbrev pub formed : Result (Unit {0}) Utf8Error → Bool
+formed (Ok a) = true
+formed (Err error) = false
 
 -- a character whose first byte leads to the ranges rs
 module _ (p3 p2 p1 at : ℕ) (shut : due p3 p2 p1 ≡ false) (b : ℕ) (s : List ℕ) where
@@ -218,9 +217,9 @@ module _ (p3 p2 p1 at : ℕ) (shut : due p3 p2 p1 ≡ false) (b : ℕ) (s : List
 
     stepped : char_length (b ∷ s) ≡ length_after rs s → formed (octets_from 0 at (b ∷ s)) ≡ (begins rs s && after)
     unfolding octets_from length_after
-    stepped e = ap (λ (m : ℕ). formed (elim m as (λ _. Utf8) [ zero ↦ IllFormed at | suc n ↦ octets_from n (at + 1) s ])) e ∙ go (begins rs s)
+    stepped e = ap (λ (m : ℕ). formed (elim m as (λ _. Result (Unit {0}) Utf8Error) [ zero ↦ ill_formed at | suc n ↦ octets_from n (at + 1) s ])) e ∙ go (begins rs s)
       where
-        go : (t : Bool) → formed (elim (elim t as (λ _. ℕ) [ true ↦ suc (length rs) | false ↦ 0 ]) as (λ _. Utf8) [ zero ↦ IllFormed at | suc n ↦ octets_from n (at + 1) s ]) ≡ (t && after)
+        go : (t : Bool) → formed (elim (elim t as (λ _. ℕ) [ true ↦ suc (length rs) | false ↦ 0 ]) as (λ _. Result (Unit {0}) Utf8Error) [ zero ↦ ill_formed at | suc n ↦ octets_from n (at + 1) s ]) ≡ (t && after)
         go true = ap formed (skip (length rs) (at + 1) s)
         go false = refl
 
@@ -232,7 +231,7 @@ module _ (p3 p2 p1 at : ℕ) (shut : due p3 p2 p1 ≡ false) (b : ℕ) (s : List
 
   no-character : char_length (b ∷ s) ≡ 0 → leads b ≡ false → right_from p3 p2 p1 (b ∷ s) ≡ formed (octets_from 0 at (b ∷ s))
   unfolding right_from right octets_from
-  no-character e l = rw (shut, l) (ap (λ (m : ℕ). formed (elim m as (λ _. Utf8) [ zero ↦ IllFormed at | suc n ↦ octets_from n (at + 1) s ])) (sym e))
+  no-character e l = rw (shut, l) (ap (λ (m : ℕ). formed (elim m as (λ _. Result (Unit {0}) Utf8Error) [ zero ↦ ill_formed at | suc n ↦ octets_from n (at + 1) s ])) (sym e))
 
 -- a text whose first byte is b, by the class of b, where what follows its first character agrees
 module _ (p3 p2 p1 at : ℕ) (shut : due p3 p2 p1 ≡ false) (b : ℕ) (s : List ℕ)
@@ -312,6 +311,6 @@ pub rule-is-grammar : RuleIsGrammar
 unfolding ruled due utf8_of
 rule-is-grammar s = agrees (length s) s (omega arith) 0 0 0 0 refl ∙ told (octets_from 0 0 s) refl
   where
-    told : (u : Utf8) → octets_from 0 0 s ≡ u → formed u ≡ well_formed s
-    told WellFormed e = sym (well-formed s e)
-    told (IllFormed at) e = sym (not-well-formed s at e)
+    told : (u : Result (Unit {0}) Utf8Error) → octets_from 0 0 s ≡ u → formed u ≡ well_formed s
+    told (Ok a) e = sym (well-formed s e)
+    told (Err error) e = sym (not-well-formed s error.valid_up_to e)

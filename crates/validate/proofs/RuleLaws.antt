@@ -1,10 +1,12 @@
 -- What code that goes by the local rule has to know: when a byte is right, when no character is open, and that ASCII is right after ASCII.
 -- Assumes nothing.
-use Rattle.std.specs.Prelude.{◌≡◌, ℕ, zero, suc, ◌+◌, ◌-◌, ◌<◌, ◌≤◌, Bool, true, false, cond, not, ◌&&◌, ◌||◌, eqb, ltb, leb, List, get_or}
+use Rattle.std.specs.Prelude.{◌≡◌, ℕ, zero, suc, ◌+◌, ◌-◌, ◌<◌, ◌≤◌, Bool, true, false, cond, not, ◌&&◌, ◌||◌, eqb, ltb, leb, List, length, get_or}
 use mathlib.Core.Path.{refl, sym, ◌∙◌, ap}
 use mathlib.Core.Bool.{beq, true≢false}
 use native.Mathlib.Decide.{ℕ_discrete, dec_lt}
 use native.Mathlib.Omega.{arith}
+use Rattle.std.specs.List.{between}
+use Rattle.std.proofs.lemmas.List.Edits.{length-between, get_or-between}
 use borrow.Author.Tests.{leb-true, ltb-true, ltb-false, le-leb}
 use Rattle.utf8.specs.Rfc3629.{to, tail, within}
 use Rattle.validate.specs.Rule.{due, follows, leads, right, padded, right_at, open_at}
@@ -115,6 +117,22 @@ module _ (s : List ℕ) where
       ap (λ (n : ℕ). right (get_or (padded s) n 0) (get_or (padded s) (suc i) 0) (get_or (padded s) (suc (suc i)) 0) (get_or s i 0)) x ∙
       ap (λ (n : ℕ). right (get_or s (i - 3) 0) (get_or (padded s) n 0) (get_or (padded s) (suc (suc i)) 0) (get_or s i 0)) y ∙
       ap (λ (n : ℕ). right (get_or s (i - 3) 0) (get_or s (i - 2) 0) (get_or (padded s) n 0) (get_or s i 0)) z
+
+  -- a block that is right after the three bytes before it, by places of the text
+  pub block-right :
+      (i n e : ℕ) → 3 ≤ i → e ≡ i + n → e ≤ length s →
+      (let b = between (i - 3) e s in (k : ℕ) → k + 3 < length b → right (get_or b k 0) (get_or b (k + 1) 0) (get_or b (k + 2) 0) (get_or b (k + 3) 0) ≡ true) →
+      (j : ℕ) → j < n → right_at s (i + j) ≡ true
+  block-right i n e h q f all j l =
+      let b = between (i - 3) e s in
+      let place : (m p : ℕ) → m < n + 3 → i - 3 + m ≡ p → get_or b m 0 ≡ get_or s p 0 =
+      λ m p k r. get_or-between s (i - 3) e m 0 (omega arith) ∙ ap (λ (p : ℕ). get_or s p 0) r in
+      let p3 = place j (i + j - 3) (omega arith) (omega arith) in
+      let p2 = place (j + 1) (i + j - 2) (omega arith) (omega arith) in
+      let p1 = place (j + 2) (i + j - 1) (omega arith) (omega arith) in
+      let p0 = place (j + 3) (i + j) (omega arith) (omega arith) in
+      let here = all j (omega (arith, length-between s (i - 3) e f)) in
+      right-at (i + j) (omega arith) ∙ cc
 
   pub open-at : (i : ℕ) → 3 ≤ i → open_at s i ≡ due (get_or s (i - 3) 0) (get_or s (i - 2) 0) (get_or s (i - 1) 0)
   unfolding open_at

@@ -5,25 +5,26 @@
 #![tactic(auto)]
 
 mod ascii;
+mod blocks;
 mod rule;
 
 ghost use Rattle.std.specs.Prelude.{◌≡◌};
 ghost use Rattle.utf8.specs.Rfc3629.{utf8_of};
 
-use utf8::Utf8;
+use utf8::Utf8Error;
 
 // A text is passed over as far as it is ASCII, and then by the local rule. What is left, of a text that is ill-formed or very
 // short, is read by the table.
-pub fn validate(text: &[u8]) -> Utf8
+pub fn validate(text: &[u8]) -> Result<(), Utf8Error>
     ensures { result ≡ utf8_of text.now }
 {
-    let at = ascii::run_end(text, 0);
+    let at = ascii::run_end(text);
     if at == text.len() {
-        return Utf8::WellFormed;
+        return Ok(());
     }
     let from = rule::passed(text, at);
     if from == text.len() {
-        return Utf8::WellFormed;
+        return Ok(());
     }
     utf8::read_with_table(text, from)
 }

@@ -3,15 +3,15 @@
 use mathlib.Core.Path.{◌≡◌, refl, ap, ◌∙◌}
 use mathlib.Core.List.{List, [], ◌∷◌, ◌++◌}
 use Prim.Native.Nat.{ℕ, zero, suc, ◌+◌, ◌*◌, ◌/◌, ◌%◌, ◌^◌, ◌≤◌, ◌<◌}
-use native.Mathlib.Nat.{zero-add, suc-add, mul-zero, one-mul, pow-suc, pow-succ', mul_assoc, add_assoc, le_of_suc-le-suc, not-suc-le-zero, mod-add-div, div-lt_iff_lt-mul, div-div-eq-div-mul, one-le-pow, mod-lt, div-one}
+use native.Mathlib.Nat.{zero-add, suc-add, mul-zero, one-mul, pow-suc, pow-succ', mul_assoc, add_assoc, add-zero, le_of_suc-le-suc, not-suc-le-zero, mod-add-div, div-lt_iff_lt-mul, div-div-eq-div-mul, one-le-pow, mod-lt, div-one}
 use native.Mathlib.Omega.{arith}
 use native.Mathlib.Numerals.{add-one}
 use lib.Arith.{digits_div, digits_mod, mod-mul}
 use lib.Dec.{lit<}
-use lib.ListN.{length, get_or, take, drop, drop_of_length-le}
+use lib.ListN.{length, get_or, take, drop}
 use lib.Seq.{sets, drop-append-add, drop-drop}
 use Rattle.wire.specs.Number.{byte_at, little_endian, u16_at, u32_at, bytes_of}
-use Rattle.wire.proofs.Sets.{sets-append, sets-joined}
+use Rattle.wire.proofs.Sets.{sets-joined}
 
 -- ---- reading
 
@@ -37,20 +37,18 @@ little_endian-add (suc v) w [] = simp (little_endian-none, mul-zero)
 little_endian-add (suc v) w (b ∷ s) =
     rw (suc-add, pow-succ', mul_assoc, little_endian-add v w s) (omega arith)
 
--- at or past the end a number is 0
-pub little_endian-past : (w : ℕ) (p : List ℕ) (at : ℕ) → length p ≤ at → little_endian w (drop at p) ≡ 0
-little_endian-past w p at h = rw (drop_of_length-le p h) (little_endian-none w)
-
 -- the numbers of two bytes and of four, byte by byte
-pub u16-bytes : (p : List ℕ) (at : ℕ) → u16_at p at ≡ byte_at p at + 256 * byte_at p (at + 1)
+pub u16-bytes : (p : List ℕ) (at : ℕ) → u16_at p at ≡ byte_at p (at + 0) + 256 * byte_at p (at + 1)
 unfolding little_endian
-u16-bytes p at = rw add-one (omega (arith, little_endian-suc 1 p at, little_endian-suc 0 p (suc at)))
+u16-bytes p at = rw (add-zero, add-one) (omega (arith, little_endian-suc 1 p at, little_endian-suc 0 p (suc at)))
 
-pub u32-halves : (p : List ℕ) (at : ℕ) → u32_at p at ≡ u16_at p at + 65536 * u16_at p (at + 2)
-u32-halves p at = rw (← drop-drop 2 at p) (little_endian-add 2 2 (drop at p))
+pub u32-bytes : (p : List ℕ) (at : ℕ) → u32_at p at ≡ byte_at p (at + 0) + 256 * byte_at p (at + 1) + 65536 * byte_at p (at + 2) + 16777216 * byte_at p (at + 3)
+unfolding little_endian
+u32-bytes p at =
+    let upper : little_endian 2 (drop (at + 2) p) ≡ byte_at p (at + 2) + 256 * byte_at p (at + 3) = rw (add-zero, add_assoc) at (u16-bytes p (at + 2)) in
+    omega (arith, u16-bytes p at, upper, rw drop-drop at (little_endian-add 2 2 (drop at p)))
 
-pub u32-bytes : (p : List ℕ) (at : ℕ) → u32_at p at ≡ byte_at p at + 256 * byte_at p (at + 1) + 65536 * byte_at p (at + 2) + 16777216 * byte_at p (at + 3)
-u32-bytes p at = omega (arith, u32-halves p at, u16-bytes p at, rw add_assoc at (u16-bytes p (at + 2)))
+pub ruleset number_bytes = (u16-bytes, u32-bytes)
 
 -- bytes after the width do not count
 pub little_endian-prefix : (w : ℕ) (s t : List ℕ) → w ≤ length s → little_endian w (s ++ t) ≡ little_endian w s
@@ -99,11 +97,6 @@ bytes_of-low (suc w) n =
     let e : n % 256 ^ suc w ≡ n / 256 % 256 ^ w * 256 + n % 256 = rw pow-suc (mod-mul n (one-le-pow w 256 (lit< tt)) (lit< tt)) in
     let r : n % 256 < 256 = mod-lt n (lit< tt) in
     rw (e, digits_mod, digits_div) (ap (λ (s : List ℕ). n % 256 ∷ s) (bytes_of-low w (n / 256)))
-
--- to store a number's bytes is to store the low ones, and then the high ones
-pub sets-bytes_of-add : (v w n : ℕ) (l : List ℕ) (i : ℕ) → sets l i (bytes_of (v + w) n) ≡ sets (sets l i (bytes_of v (n % 256 ^ v))) (i + v) (bytes_of w (n / 256 ^ v))
-sets-bytes_of-add v w n l i =
-    rw (bytes_of-low, bytes_of-add, sets-append (bytes_of v n) (bytes_of w (n / 256 ^ v)) l i, length-bytes_of)
 
 -- ---- both ways
 

@@ -2,15 +2,13 @@
 -- Assumes nothing.
 use mathlib.Core.Path.{◌≡◌, refl, ap, ◌∙◌}
 use mathlib.Core.List.{List, [], ◌∷◌}
-use mathlib.Core.Bool.{true, false}
+use mathlib.Core.Bool.{true, false, ◌&&◌}
 use Prim.Native.Nat.{ℕ, zero, suc, ◌+◌, ◌-◌, ◌%◌, ◌≤◌, ◌<◌}
 use native.Mathlib.Nat.{mod-lt, mod-mod}
 use native.Mathlib.Omega.{arith}
-use native.Mathlib.Numerals.{add-one}
-use lib.Dec.{lit<, eqb-suc-zero}
-use lib.ListN.{length, get_or, drop, replicate}
-use lib.Seq.{drop-cons}
-use borrow.Author.Tests.{ne_eqb}
+use lib.Dec.{lit<, eqb, eqb-suc-zero}
+use Rattle.std.specs.List.{list_all}
+use lib.ListN.{length, replicate}
 use Rattle.wire.specs.Padding.{padding, aligned, all_zero}
 
 -- only the remainder counts, and there are four
@@ -31,6 +29,8 @@ padding-by-arithmetic n = of-remainder n ∙ at-remainder (n % 4) (mod-lt n (lit
 
 pub padding-below : (n : ℕ) → padding n < 4
 padding-below n = omega (arith, padding-by-arithmetic n)
+
+pub ruleset padding_bounds = (padding-below)
 
 -- ---- a length with its padding is the least multiple of 4 that is not below it
 
@@ -68,14 +68,9 @@ zeros-are (suc b ∷ s) e =
     let z : false ≡ true = rw (eqb-suc-zero, all_zero) at e in
     cc
 
--- at a place that is 0 the rest decides, and at any other place the answer is no
-pub all_zero-at-zero : (s : List ℕ) (i : ℕ) → i < length s → get_or s i 0 ≡ 0 → all_zero (drop i s) ≡ all_zero (drop (i + 1) s)
+-- the test of each byte
+pub all_zero-is : (s : List ℕ) → list_all (λ b. eqb b 0) s ≡ all_zero s
 unfolding all_zero
-all_zero-at-zero s i h e = rw (add-one, drop-cons s i 0 h, e)
-
-pub all_zero-at-other : (s : List ℕ) (i : ℕ) → i < length s → (get_or s i 0 ≡ 0 → ⊥) → all_zero (drop i s) ≡ false
-unfolding all_zero
-all_zero-at-other s i h n = rw (drop-cons s i 0 h, ne_eqb (get_or s i 0) 0 n, all_zero)
-
--- a step over a byte, and what is found at one
-pub ruleset zero_steps = (all_zero-at-zero, all_zero-at-other)
+all_zero-is [] = refl
+all_zero-is (zero ∷ s) = all_zero-is s
+all_zero-is (suc b ∷ s) = rw (eqb-suc-zero, all_zero, list_all, ◌&&◌)

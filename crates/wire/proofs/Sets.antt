@@ -4,11 +4,13 @@ use mathlib.Core.Path.{◌≡◌, refl, sym, ap, ◌∙◌}
 use mathlib.Core.List.{List, [], ◌∷◌, ◌++◌}
 use Prim.Native.Nat.{ℕ, suc, ◌+◌, ◌-◌, min, ◌≤◌, ◌<◌}
 use native.Mathlib.Nat.{add-zero, add-suc, suc-add, min-eq_left, min-eq_right}
-use native.Mathlib.Numerals.{add-one}
 use native.Mathlib.Omega.{arith}
 use native.Mathlib.Decide.{dec_le}
-use lib.ListN.{length, get_or, take, drop, set, replicate, length-replicate, replicate-append-replicate, take-append-drop}
-use lib.Seq.{sets, length-sets, length-take-le, set_out, take-length, take-suc, set-set, set_comm}
+use lib.ListN.{length, take, drop, set, replicate, length-replicate, replicate-append-replicate, take-append-drop}
+use borrow.Rule.Slice.PartMut.{put_mid}
+use Rattle.std.proofs.lemmas.List.Edits.{sets-eq}
+use lib.Seq.{sets, length-sets, length-take-le, set_out, take-length, set-set, set_comm, drop-drop}
+use Rattle.std.proofs.lemmas.List.{append_assoc, take-replicate}
 
 module _ {A : Type 0} where
   -- a run that starts at or past the end stores nothing
@@ -34,23 +36,6 @@ module _ {A : Type 0} where
   sets_more l i n a =
       rw (← replicate-append-replicate n 1 a, sets-append (replicate n a) (replicate 1 a) l i, length-replicate)
 
-  -- of a value stored over and over, those that fit are stored
-  pub sets-fitting : (l : List A) (i n : ℕ) (a : A) → sets l i (replicate (min n (length l - i)) a) ≡ sets l i (replicate n a)
-  sets-fitting l i n a = elim (dec_le n (length l - i)) [ yes h ↦ rw (min-eq_left h) | no h ↦ past (omega arith) ]
-    where
-      past : length l - i ≤ n → sets l i (replicate (min n (length l - i)) a) ≡ sets l i (replicate n a)
-      past h =
-          let room : ℕ = length l - i in
-          let e : room + (n - room) ≡ n = omega arith in
-          let f : length l ≤ i + length (replicate room a) = omega (arith, length-replicate room a) in
-          rw (min-eq_right h) (sym (rw (← e, ← replicate-append-replicate room (n - room) a) (sets-within (replicate room a) (replicate (n - room) a) l i f)))
-
-  -- one store more, of the next of several values
-  pub sets-next : (vs l : List A) (i n : ℕ) (d : A) → n < length vs → set (sets l i (take n vs)) (i + n) (get_or vs n d) ≡ sets l i (take (n + 1) vs)
-  sets-next vs l i n d h =
-      let size : length (take n vs) ≡ n = length-take-le n vs (omega arith) in
-      rw (add-one, take-suc vs n d h, sets-append (take n vs) (get_or vs n d ∷ []) l i, size)
-
   -- of several values, those that fit are stored
   pub sets-room : (vs l : List A) (i : ℕ) → sets l i (take (min (length vs) (length l - i)) vs) ≡ sets l i vs
   sets-room vs l i = elim (dec_le (length vs) (length l - i)) [ yes h ↦ rw (min-eq_left h, take-length vs) | no h ↦ past (omega arith) ]
@@ -60,6 +45,28 @@ module _ {A : Type 0} where
           let room : ℕ = length l - i in
           let f : length l ≤ i + length (take room vs) = omega (arith, length-take-le room vs h) in
           rw (min-eq_right h) (sym (sets-within (take room vs) (drop room vs) l i f) ∙ rw take-append-drop)
+
+  -- a part of n places that now holds the values that fit is the run of all
+  pub sets-part :
+      (vs ws l : List A) (i k : ℕ) →
+      i < length l →
+      k ≡ min (length vs) (length l - i) →
+      ws ≡ take k vs →
+      put_mid i k l ws ≡ sets l i vs
+  sets-part vs ws l i k h e f =
+      let size : length (take k vs) ≡ k = length-take-le k vs (omega arith) in
+      let stored : sets l i (take k vs) ≡ sets l i vs = rw e (sets-room vs l i) in
+      let part : put_mid i k l (take k vs) ≡ sets l i (take k vs) = rw (sets-eq (take k vs) l i (omega (arith, size)), size, append_assoc, drop-drop) in
+      rw f (part ∙ stored)
+
+  -- of a value over and over, those that fit
+  pub sets-filled : (a : A) (ws l : List A) (i n k : ℕ) → i < length l → k ≡ min n (length l - i) → ws ≡ replicate k a → put_mid i k l ws ≡ sets l i (replicate n a)
+  sets-filled a ws l i n k h e f =
+      sets-part (replicate n a) ws l i k h (rw length-replicate e) (rw (take-replicate k n a (omega arith)) f)
+
+  -- of values that all fit
+  pub sets-whole : (ws vs l : List A) (i k : ℕ) → ws ≡ vs → k ≡ length vs → i + k ≤ length l → put_mid i k l ws ≡ sets l i vs
+  sets-whole ws vs l i k f e h = rw (f, sets-eq vs l i (omega arith), append_assoc, drop-drop, e)
 
   -- ---- a run that is stored before another in place, and after it in time
 
@@ -99,3 +106,6 @@ module _ {A : Type 0} where
       ap (λ (t : List A). sets t end c) (sets_over b vs before j e) ∙
       sets-joined vs c before j end refl ∙
       sets-joined a (vs ++ c) l i j f
+
+-- what stores a run, by whether it begins within the output
+pub ruleset stores = (sets-past, sets-part, sets-filled, sets-whole)

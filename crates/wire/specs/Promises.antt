@@ -1,10 +1,9 @@
 -- What the definitions promise. proofs/Promises.antt proves each.
-use Rattle.std.specs.Prelude.{◌≡◌, List, ◌++◌, ℕ, ◌+◌, ◌%◌, ◌^◌, ◌≤◌, ◌<◌, length, get_or, take}
+use Rattle.std.specs.Prelude.{◌≡◌, List, ◌++◌, ℕ, ◌+◌, ◌%◌, ◌^◌, ◌≤◌, ◌<◌, length, get_or, take, Some}
 use Rattle.wire.specs.Length.{wire_size, terminated}
 use Rattle.wire.specs.Number.{little_endian, bytes_of}
 use Rattle.wire.specs.Padding.{aligned}
 use Rattle.wire.specs.declared.length.TextLength.{TextLength}
-use Rattle.wire.specs.declared.length.Terminated.TheVariants.{Text}
 
 -- padding brings a length to the next multiple of 4
 abbrev pub PaddingAligns : Type 0
@@ -21,5 +20,5 @@ BytesWriteBack = (width : ℕ) (s : List ℕ) → ((k : ℕ) → get_or s k 0 < 
 -- a text's length comes back from its wire size, and a wire size from the text that it counts
 abbrev pub LengthConverts : Type 0
 LengthConverts =
-    ((n : ℕ) → n < 2 ^ 32 → terminated (wire_size n) ≡ Text (record { 0 = n }))
-    × ((size : ℕ) (text : TextLength) → terminated size ≡ Text text → size ≡ wire_size text.0)
+    ((n : ℕ) → n < 2 ^ 32 → terminated (wire_size n) ≡ Some (record { 0 = n }))
+    × ((size : ℕ) (text : TextLength) → terminated size ≡ Some text → size ≡ wire_size text.0)

@@ -11,13 +11,6 @@ pub struct TextLength(pub u32);
 #[derive(Clone, Copy)]
 pub struct WireSize(pub usize);
 
-// What a size on the wire says of its text: 0 leaves no room for the terminator.
-#[derive(Clone, Copy)]
-pub enum Terminated {
-    Text(TextLength),
-    Nothing,
-}
-
 impl TextLength {
     pub fn wire_size(self) -> WireSize
         ensures { result.0 ≡ wire_size self.0 }
@@ -27,18 +20,12 @@ impl TextLength {
 }
 
 impl WireSize {
-    // The same conversion backwards.
-    #[tactic(auto, using(crate::proofs::LengthLaws::text_lengths))]
-    pub fn text_length(self) -> Terminated
+    // The same conversion backwards: a size of 0 leaves no room for the terminator, and a length has 32 bits.
+    #[tactic(auto, using(crate::proofs::LengthLaws::text_lengths), unfolding(crate::specs::Length::terminated))]
+    pub fn text_length(self) -> Option<TextLength>
         ensures { result ≡ terminated self.0 }
     {
-        let size = self.0;
-        if size == 0 {
-            return Terminated::Nothing;
-        }
-        if 0x1_0000_0000 < size {
-            return Terminated::Nothing;
-        }
-        Terminated::Text(TextLength((size - 1) as u32))
+        let length = u32::try_from(self.0.checked_sub(1)?).ok()?;
+        Some(TextLength(length))
     }
 }

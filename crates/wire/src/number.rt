@@ -1,80 +1,74 @@
 // Little-endian numbers of two and four bytes, read from and stored into lent bytes.
 //
-// Where all bytes are there a number is one load or one store. At the end of the bytes a number of four
-// is two of two.
-ghost use Rattle.std.specs.Prelude.{◌≡◌, ◌+◌, ◌*◌};
+// A function for each width, and one core over the width on each side: where all bytes are there it is one load or
+// one store.
+ghost use Rattle.std.specs.Prelude.{◌≡◌, ℕ, ◌+◌, ◌<◌, slice_index, length};
 ghost use Rattle.std.proofs.lemmas.List.Edits.{sets};
-ghost use Rattle.wire.specs.Number.{u16_at, u32_at, bytes_of};
+ghost use Rattle.wire.specs.Number.{byte_at, u16_at, u32_at, bytes_of};
 
-// The number that two bytes spell, and four.
-fn of_two(b0: u8, b1: u8) -> u16
-    ensures { result ≡ b0 + 256 * b1 }
+use crate::bytes::write_bytes;
+
+// The `N` bytes from `offset` on; those past the end are 0.
+fn bytes_at<const N: usize>(bytes: &[u8], offset: usize) -> [u8; N]
+    ensures { (k : ℕ) → k < N → slice_index result k ≡ byte_at bytes.now (offset + k) }
 {
-    b0 as u16 + 256 * (b1 as u16)
+    let rest = bytes.get(offset..).unwrap_or(&[]);
+    match rest.first_chunk::<N>() {
+        Some(first) => *first,
+        None => last_bytes(rest),
+    }
 }
 
-fn of_four(b0: u8, b1: u8, b2: u8, b3: u8) -> u32
-    ensures { result ≡ b0 + 256 * b1 + 65536 * b2 + 16777216 * b3 }
+// The last bytes, and zeros after them. A function of its own, so that no memory is set aside where all are there.
+fn last_bytes<const N: usize>(rest: &[u8]) -> [u8; N]
+    requires { length rest.now < N }
+    ensures { (k : ℕ) → k < N → slice_index result k ≡ byte_at rest.now k }
 {
-    b0 as u32 + 256 * (b1 as u32) + 65536 * (b2 as u32) + 16777216 * (b3 as u32)
+    let mut bytes = [0; N];
+    bytes[..rest.len()].copy_from_slice(rest);
+    bytes
 }
 
+// Stores so many bytes from `offset` on, as many as fit.
+#[tactic(auto, using(crate::proofs::Sets::stores))]
+fn write_array<const N: usize>(output: &mut [u8], offset: usize, bytes: [u8; N])
+    ensures { output.new ≡ sets output.old offset bytes.entry }
+{
+    if offset < output.len() {
+        if N <= output.len() - offset {
+            output[offset..offset + N].copy_from_slice(&bytes);
+        } else {
+            // A copy, so that the bytes need no memory where all of them fit.
+            let first = bytes;
+            write_bytes(output, offset, &first);
+        }
+    }
+}
+
+#[tactic(auto, using(crate::proofs::NumberLaws::number_bytes))]
 pub fn read_u16(bytes: &[u8], offset: usize) -> u16
     ensures { result ≡ u16_at bytes.now offset }
 {
-    if bytes.len() <= offset {
-        return 0;
-    }
-    if bytes.len() - offset < 2 {
-        return of_two(bytes[offset], 0);
-    }
-    of_two(bytes[offset], bytes[offset + 1])
+    u16::from_le_bytes(bytes_at(bytes, offset))
 }
 
+#[tactic(auto, using(crate::proofs::NumberLaws::number_bytes))]
 pub fn read_u32(bytes: &[u8], offset: usize) -> u32
     ensures { result ≡ u32_at bytes.now offset }
 {
-    if bytes.len() <= offset {
-        return 0;
-    }
-    if bytes.len() - offset < 4 {
-        return read_u16(bytes, offset) as u32 + 65536 * (read_u16(bytes, offset + 2) as u32);
-    }
-    of_four(
-        bytes[offset],
-        bytes[offset + 1],
-        bytes[offset + 2],
-        bytes[offset + 3],
-    )
+    u32::from_le_bytes(bytes_at(bytes, offset))
 }
 
+#[tactic(auto, unfolding(crate::specs::Number::bytes_of))]
 pub fn write_u16(output: &mut [u8], offset: usize, value: u16)
     ensures { output.new ≡ sets output.old offset (bytes_of 2 value) }
 {
-    if output.len() <= offset {
-        return;
-    }
-    if output.len() - offset < 2 {
-        output[offset] = (value % 256) as u8;
-        return;
-    }
-    output[offset] = (value % 256) as u8;
-    output[offset + 1] = (value / 256) as u8;
+    write_array::<2>(output, offset, value.to_le_bytes());
 }
 
+#[tactic(auto, unfolding(crate::specs::Number::bytes_of))]
 pub fn write_u32(output: &mut [u8], offset: usize, value: u32)
     ensures { output.new ≡ sets output.old offset (bytes_of 4 value) }
 {
-    if output.len() <= offset {
-        return;
-    }
-    if output.len() - offset < 4 {
-        write_u16(output, offset, (value % 65536) as u16);
-        write_u16(output, offset + 2, (value / 65536) as u16);
-        return;
-    }
-    output[offset] = (value % 256) as u8;
-    output[offset + 1] = (value / 256 % 256) as u8;
-    output[offset + 2] = (value / 65536 % 256) as u8;
-    output[offset + 3] = (value / 16777216) as u8;
+    write_array::<4>(output, offset, value.to_le_bytes());
 }

@@ -1,3 +1,4 @@
+pub mod EntryLaws
 pub mod RunLaws
 pub mod SectionLaws
 pub mod SectionParts

@@ -3,12 +3,13 @@
 use Prim.Native.Nat.{ℕ, suc, ◌+◌, ◌≤◌, ◌<◌}
 use mathlib.Core.Bool.{true, false}
 use mathlib.Core.List.{List, [], ◌∷◌, ◌++◌, flat_map}
-use mathlib.Core.Path.{◌≡◌, refl, ap}
+use mathlib.Core.Path.{◌≡◌, refl, sym, ap, ◌∙◌}
 use native.Mathlib.Numerals.{add-one}
 use native.Mathlib.Omega.{arith}
-use lib.ListN.{length, get_or, drop, drop_of_length-le}
-use lib.Seq.{drop-cons}
+use lib.ListN.{length, get_or, drop, drop_of_length-le, length-append}
+use lib.Seq.{sets, drop-cons}
 use Rattle.table.specs.Rows.{no_row}
+use Rattle.wire.proofs.Sets.{sets-joined}
 use Rattle.table.specs.Tags.{tag_of, same_tag}
 use Rattle.table.specs.declared.row.Row.{Row}
 use Rattle.table.specs.declared.tag.Tag.{Tag}
@@ -68,16 +69,57 @@ module _ (t : Tag) (rows : List Row) (index : ℕ) where
     run_more q = rw (drop-cons rows index no_row, ← is, add-one) (leading-more t (λ (s : Row). s) r (drop (suc index) rows) (tag_same (tag_of r.tag) t q))
 
     pub run-stops : same_tag (tag_of r.tag) t ≡ false → run t rows index ≡ []
-    run-stops n = rw (drop-cons rows index no_row, ← is) (leading-ends t (λ (s : Row). s) r (drop (suc index) rows) (λ q. let z : ◌≡◌ {A = ℕ} 0 1 = cc (same_tag_lem (tag_of r.tag) t q) in omega arith))
+    run-stops n =
+        rw (drop-cons rows index no_row, ← is)
+        (leading-ends t (λ (s : Row). s) r (drop (suc index) rows) (λ q. cc (same_tag_lem (tag_of r.tag) t q)))
 
-  module _ (payload edit : List ℕ) where
+-- ---- the same of their entries
+
+module _ (payload edit : List ℕ) (t : Tag) (rows : List Row) (index : ℕ) where
+  abbrev row : Row
+  row = get_or rows index no_row
+
+  module _ (h : index < length rows) where
+    -- a row of the tag is the next entry
+    pub count-more : same_tag (tag_of row.tag) t ≡ true → entry_count t (drop index rows) ≡ 1 + entry_count t (drop (index + 1) rows)
+    count-more q = ap length (run_more t rows index h row refl q) ∙ omega arith
+
     pub bytes-more :
-        (r : Row) →
-        run t rows index ≡ r ∷ run t rows (index + 1) →
-        run_bytes payload edit t (drop index rows) ≡ row_bytes payload edit t r ++ run_bytes payload edit t (drop (index + 1) rows)
+        same_tag (tag_of row.tag) t ≡ true →
+        run_bytes payload edit t (drop index rows) ≡ row_bytes payload edit t row ++ run_bytes payload edit t (drop (index + 1) rows)
     unfolding run_bytes flat_map
-    bytes-more r e = rw e
+    bytes-more q = rw (run_more t rows index h row refl q)
 
-    pub bytes-end : run t rows index ≡ [] → run_bytes payload edit t (drop index rows) ≡ []
+    pub length-more :
+        same_tag (tag_of row.tag) t ≡ true →
+        length (run_bytes payload edit t (drop index rows))
+        ≡ length (row_bytes payload edit t row) + length (run_bytes payload edit t (drop (index + 1) rows))
+    length-more q = ap length (bytes-more q) ∙ length-append (row_bytes payload edit t row) (run_bytes payload edit t (drop (index + 1) rows))
+
+    pub stored-more :
+        (l : List ℕ) (at : ℕ) →
+        same_tag (tag_of row.tag) t ≡ true →
+        sets (sets l at (row_bytes payload edit t row)) (at + length (row_bytes payload edit t row)) (run_bytes payload edit t (drop (index + 1) rows))
+        ≡ sets l at (run_bytes payload edit t (drop index rows))
+    stored-more l at q =
+        let next = run_bytes payload edit t (drop (index + 1) rows) in
+        sets-joined (row_bytes payload edit t row) next l at (at + length (row_bytes payload edit t row)) refl ∙ ap (sets l at) (sym (bytes-more q))
+
+    -- any other ends the entries
+    pub count-stops : same_tag (tag_of row.tag) t ≡ false → entry_count t (drop index rows) ≡ 0
+    count-stops n = ap length (run-stops t rows index h row refl n)
+
+    pub bytes-stop : same_tag (tag_of row.tag) t ≡ false → run_bytes payload edit t (drop index rows) ≡ []
     unfolding run_bytes flat_map
-    bytes-end e = rw e
+    bytes-stop n = rw (run-stops t rows index h row refl n)
+
+  -- and so does the table's end
+  module _ (h : length rows ≤ index) where
+    pub count-past : entry_count t (drop index rows) ≡ 0
+    count-past = ap length (run_past t rows index h)
+
+    pub bytes-past : run_bytes payload edit t (drop index rows) ≡ []
+    unfolding run_bytes flat_map
+    bytes-past = rw (run_past t rows index h)
+
+pub ruleset run_steps = (count-more, length-more, stored-more, count-stops, bytes-stop, count-past, bytes-past)

@@ -1,5 +1,6 @@
 -- Rows that obey the rules, section by section: what a section's row begins, and where the next section's row stands.
 -- Assumes nothing.
+use Rattle.std.specs.Prelude.{Ok, is_ok}
 use Prim.Native.Nat.{ℕ, suc, ◌+◌, ◌≤◌, ◌<◌}
 use mathlib.Core.Bool.{Bool, true, false, and-eq-true_iff}
 use mathlib.Core.List.{List, [], ◌∷◌, ◌++◌, flat_map}
@@ -9,7 +10,6 @@ use native.Mathlib.Omega.{arith}
 use lib.ListN.{length, get_or, drop, length-append}
 use lib.Seq.{sets, drop-cons, drop-drop}
 use Rattle.wire.proofs.Sets.{sets-append}
-use Rattle.layout.specs.Checked.{good, is_good}
 use Rattle.layout.specs.Kinds.{kind_number}
 use Rattle.layout.proofs.Checked.{is-good}
 use Rattle.table.specs.Rows.{no_row}
@@ -39,19 +39,19 @@ module _ (payload edit : List ℕ) where
   begins-one tag.Names b r rows = refl
   begins-one tag.Arguments b r rows = refl
   begins-one tag.Unknown b r rows = refl
-  begins-one tag.Content b r rows = let z : ◌≡◌ {A = ℕ} 0 1 = cc in absurd (omega arith)
-  begins-one tag.Name b r rows = let z : ◌≡◌ {A = ℕ} 0 1 = cc in absurd (omega arith)
-  begins-one tag.Pair b r rows = let z : ◌≡◌ {A = ℕ} 0 1 = cc in absurd (omega arith)
-  begins-one tag.None b r rows = let z : ◌≡◌ {A = ℕ} 0 1 = cc in absurd (omega arith)
+  begins-one tag.Content b r rows = cc
+  begins-one tag.Name b r rows = cc
+  begins-one tag.Pair b r rows = cc
+  begins-one tag.None b r rows = cc
 
   -- what stands after the entries that may follow a row
   pub record After (rows rest : List Row) : Type 0 where
     pub same : sections_of payload edit rest ≡ sections_of payload edit rows
     pub begins : Opens rest
     pub previous : Tag
-    pub checked : check_rows payload edit previous rest ≡ good tt
+    pub checked : check_rows payload edit previous rest ≡ Ok tt
 
-  pub after-entries : (rows : List Row) (previous : Tag) → check_rows payload edit previous rows ≡ good tt → After rows (drop (entry_count (entry_tag previous) rows) rows)
+  pub after-entries : (rows : List Row) (previous : Tag) → check_rows payload edit previous rows ≡ Ok tt → After rows (drop (entry_count (entry_tag previous) rows) rows)
   unfolding sections_of
   after-entries [] previous e = unfold leading in record { same = refl; begins = tt; previous = previous; checked = e }
   after-entries (r ∷ rows) previous e =
@@ -88,10 +88,10 @@ module _ (payload edit : List ℕ) where
   entries-follow tag.Names b rows oks = refl
   entries-follow tag.Arguments b rows oks = refl
   entries-follow tag.Unknown b rows oks = sym (none-none rows oks)
-  entries-follow tag.Content b rows oks = let z : ◌≡◌ {A = ℕ} 0 1 = cc in absurd (omega arith)
-  entries-follow tag.Name b rows oks = let z : ◌≡◌ {A = ℕ} 0 1 = cc in absurd (omega arith)
-  entries-follow tag.Pair b rows oks = let z : ◌≡◌ {A = ℕ} 0 1 = cc in absurd (omega arith)
-  entries-follow tag.None b rows oks = let z : ◌≡◌ {A = ℕ} 0 1 = cc in absurd (omega arith)
+  entries-follow tag.Content b rows oks = cc
+  entries-follow tag.Name b rows oks = cc
+  entries-follow tag.Pair b rows oks = cc
+  entries-follow tag.None b rows oks = cc
 
   -- an unknown section's kind fits its field
   kind_fits : (t : Tag) → begins_section t ≡ true → (r : Row) (rows : List Row) → RowOk payload edit t r → kind_number (kind_of (section_from payload edit t r rows)) ≤ 65535
@@ -101,10 +101,10 @@ module _ (payload edit : List ℕ) where
   kind_fits tag.Names b r rows ok = omega arith
   kind_fits tag.Arguments b r rows ok = omega arith
   kind_fits tag.Unknown b r rows ok = ok.1
-  kind_fits tag.Content b r rows ok = let z : ◌≡◌ {A = ℕ} 0 1 = cc in absurd (omega arith)
-  kind_fits tag.Name b r rows ok = let z : ◌≡◌ {A = ℕ} 0 1 = cc in absurd (omega arith)
-  kind_fits tag.Pair b r rows ok = let z : ◌≡◌ {A = ℕ} 0 1 = cc in absurd (omega arith)
-  kind_fits tag.None b r rows ok = let z : ◌≡◌ {A = ℕ} 0 1 = cc in absurd (omega arith)
+  kind_fits tag.Content b r rows ok = cc
+  kind_fits tag.Name b r rows ok = cc
+  kind_fits tag.Pair b r rows ok = cc
+  kind_fits tag.None b r rows ok = cc
 
   -- ---- what is left to write
 
@@ -112,7 +112,7 @@ module _ (payload edit : List ℕ) where
   pub record Left (rows : List Row) (index at : ℕ) : Type 0 where
     pub begins : Opens (drop index rows)
     pub previous : Tag
-    pub checked : check_rows payload edit previous (drop index rows) ≡ good tt
+    pub checked : check_rows payload edit previous (drop index rows) ≡ Ok tt
     pub fit : all_countable (sections_of payload edit (drop index rows)) ≡ true
     pub small : at + length (flat_map encode_section (sections_of payload edit (drop index rows))) ≤ limit
 
@@ -181,7 +181,7 @@ module _ (payload edit : List ℕ) where
   -- all sections are left at first, where the rows can be written
   pub all_left :
       (rows : List Row) →
-      is_good (written payload edit rows) ≡ true →
+      is_ok (written payload edit rows) ≡ true →
       Left rows 0 8 × (length (sections_of payload edit rows) ≤ 65535) × (length (encode (sections_of payload edit rows)) ≤ limit)
   all_left rows e =
       let (q, found) = is-good (written payload edit rows) e in

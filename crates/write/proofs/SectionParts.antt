@@ -1,9 +1,10 @@
--- The sections that rows begin, by their parts, and what a function that stores those parts has to know.
+-- The section that a row begins, by its row's tag: what it stores and where, how many rows are its entries, and what stands around it.
 -- Assumes nothing.
 use Prim.Native.Nat.{ℕ, ◌+◌, ◌-◌, ◌≤◌}
+use mathlib.Core.Bool.{true}
 use mathlib.Core.List.{List, []}
 use mathlib.Core.Logic.{◌⊎◌, inl, inr}
-use mathlib.Core.Path.{◌≡◌, refl, sym, ap}
+use mathlib.Core.Path.{◌≡◌, refl, sym, ◌∙◌}
 use native.Mathlib.Omega.{arith}
 use lib.ListN.{length, get_or, drop}
 use lib.Seq.{sets}
@@ -16,7 +17,7 @@ use Rattle.layout.specs.declared.compression.SourceCompression.TheVariants.{None
 use Rattle.layout.specs.declared.section_type.SourceInfoSectionType.{SourceInfoSectionType}
 use Rattle.layout.specs.declared.section_type.SourceInfoSectionType.TheVariants as kind
 use Rattle.table.specs.Rows.{no_row, bytes_span}
-use Rattle.table.specs.Tags.{tag_of}
+use Rattle.table.specs.Tags.{tag_of, entry_tag, begins_section}
 use Rattle.table.specs.declared.row.Row.{Row}
 use Rattle.table.specs.declared.tag.Tag.{Tag}
 use Rattle.table.specs.declared.tag.Tag.TheVariants as tag
@@ -25,123 +26,21 @@ use Rattle.format.specs.Encoding.{limit, stored_bytes, body_header, kind_of, enc
 use Rattle.format.specs.Resolve.{begun, content_of, name_of, pair_of}
 use Rattle.format.specs.Sections.{Section}
 use Rattle.format.proofs.Encoding.{length-content_entry, length-name_entry, length-pair_entry}
-use Rattle.format.proofs.SectionBytes.{start, filled}
+use Rattle.format.proofs.SectionBytes.{start, filled, length-section}
 use Rattle.frames.specs.Frame.{framed, contents_header, names_header, arguments_header}
 use Rattle.frames.proofs.Closed.{closed-size, section-closed}
 use Rattle.write.specs.declared.position.Position.{Position}
-use Rattle.write.specs.Position.{standing, section_bytes, past}
+use Rattle.write.specs.Position.{standing}
 use Rattle.write.specs.Run.{row_bytes, run_bytes}
-use Rattle.write.specs.Section.{entry_count, entries_of, section_at}
+use Rattle.write.specs.Source.{rows, section, after, MayWrite}
+use Rattle.write.specs.declared.source.Source.{Source}
+use Rattle.write.specs.Section.{entry_count, entries_of, section_at, next_section, start_of}
 use Rattle.write.proofs.RunLaws.{run-contents, run-names, run-pairs, count-leading}
 
--- where a section's stored bytes start, these bytes, its body header for so many of them, its kind
-pub record Parts (s : Section) (first : ℕ) (bytes : List ℕ) (header : ℕ → List ℕ) (k : SourceInfoSectionType) : Type 0 where
-  pub starts : start s ≡ first
-  pub stored : stored_bytes s ≡ bytes
-  pub headed : (n : ℕ) → body_header s n ≡ header n
+-- a section's kind, and its body header for so many stored bytes
+pub record Headed (s : Section) (k : SourceInfoSectionType) (header : ℕ → List ℕ) : Type 0 where
   pub kinded : kind_of s ≡ k
-
--- ---- the parts at a place, up to the end of the stored bytes
-
-module _
-    {s : Section} {first : ℕ} {bytes : List ℕ} {header : ℕ → List ℕ} {k : SourceInfoSectionType}
-    (parts : Parts s first bytes header k)
-    (at : ℕ) {end : ℕ}
-    (ends : end ≡ at + first + length bytes)
-  where
-    span : end ≡ at + filled s
-    span = omega (arith, parts.starts, ap length parts.stored)
-
-    -- where the section ends within the limit, the stored bytes do too
-    pub within : at + length (encode_section s) ≤ limit → end ≤ limit
-    within small = omega (arith, closed-size s at span, le-aligned (end - at))
-
-    parts-closed :
-        (l : List ℕ) {whole : List ℕ} →
-        whole ≡ framed (sets l (at + first) bytes) at end k (header (end - (at + first))) →
-        whole ≡ sets l at (encode_section s)
-    parts-closed l e =
-        cc (parts.starts, parts.stored, parts.headed (end - (at + first)), parts.kinded, section-closed s at span l)
-
--- ---- the parts of the section at an index, by its row's tag
-
-module _ (payload edit : List ℕ) (all : List Row) (index : ℕ) where
-  abbrev row : Row
-  row = get_or all index no_row
-
-  abbrev rest : List Row
-  rest = drop (index + 1) all
-
-  abbrev run : Tag → List ℕ
-  run t = run_bytes payload edit t rest
-
-  -- the bytes that the row itself names
-  abbrev pub own : List ℕ
-  own = span_bytes payload edit (bytes_span row)
-
-  abbrev pub Plain : Type 0
-  Plain = Parts (section_at payload edit all index) 28 (run tag.Content) (λ n. contents_header row.a (compression_number None) n n (entry_count tag.Content rest)) kind.SourceContents
-
-  pub plain-parts : tag_of row.tag ≡ tag.PlainContents → Plain
-  unfolding begun stored_bytes body_header kind_of
-  plain-parts q = rw q (record {
-    starts = refl;
-    stored = sym (run-contents payload edit rest);
-    headed = λ n. rw (count-leading tag.Content (content_of payload edit) rest);
-    kinded = refl;
-  })
-
-  abbrev pub Packed : Type 0
-  Packed = Parts (section_at payload edit all index) 28 own (λ n. contents_header row.a (compression_number Zlib) n row.e row.d) kind.SourceContents
-
-  pub packed-parts : tag_of row.tag ≡ tag.PackedContents → Packed
-  unfolding begun stored_bytes body_header kind_of
-  packed-parts q = rw q (record { starts = refl; stored = refl; headed = λ n. refl; kinded = refl })
-
-  abbrev pub Names : Type 0
-  Names = Parts (section_at payload edit all index) 18 (run tag.Name) (λ n. names_header n (entry_count tag.Name rest)) kind.SourceNames
-
-  pub names-parts : tag_of row.tag ≡ tag.Names → Names
-  unfolding begun stored_bytes body_header kind_of
-  names-parts q = rw q (record {
-    starts = refl;
-    stored = sym (run-names payload edit rest);
-    headed = λ n. rw (count-leading tag.Name (name_of payload edit) rest);
-    kinded = refl;
-  })
-
-  abbrev pub Arguments : Type 0
-  Arguments = Parts (section_at payload edit all index) 20 (run tag.Pair) (λ n. arguments_header n (entry_count tag.Pair rest)) kind.Arguments
-
-  pub arguments-parts : tag_of row.tag ≡ tag.Arguments → Arguments
-  unfolding begun stored_bytes body_header kind_of
-  arguments-parts q = rw q (record {
-    starts = refl;
-    stored = sym (run-pairs payload edit rest);
-    headed = λ n. rw (count-leading tag.Pair (pair_of payload edit) rest);
-    kinded = refl;
-  })
-
-  abbrev pub Unknown : Type 0
-  Unknown = Parts (section_at payload edit all index) 8 own (λ n. []) (kind.Unknown row.a)
-
-  pub unknown-parts : tag_of row.tag ≡ tag.Unknown → Unknown
-  unfolding begun stored_bytes body_header kind_of
-  unknown-parts q = rw q (record { starts = refl; stored = refl; headed = λ n. refl; kinded = refl })
-
--- what a writer of the section at a position answers and leaves, once its parts are stored and closed
-pub told :
-    (payload edit : List ℕ) (all : List Row) (p : Position) {t : Tag} {first end : ℕ} {bytes : List ℕ} {header : ℕ → List ℕ} {k : SourceInfoSectionType} →
-    tag_of (get_or all p.index no_row).tag ≡ t →
-    Parts (section_at payload edit all p.index) first bytes header k →
-    end ≡ p.at + first + length bytes →
-    (l : List ℕ) {whole : List ℕ} {i a : ℕ} →
-    i ≡ p.index + 1 + entries_of t (drop (p.index + 1) all) →
-    (a ≡ p.at + aligned (end - p.at)) × (whole ≡ framed (sets l (p.at + first) bytes) p.at end k (header (end - (p.at + first)))) →
-    (standing i a ≡ past payload edit all p) × (whole ≡ sets l p.at (section_bytes payload edit all p))
-told payload edit all p q parts ends l onward (after, closed) =
-    let size = closed-size (section_at payload edit all p.index) p.at (span parts p.at ends) in
-    (rw (onward, after, size, q), parts-closed parts p.at ends l closed)
+  pub headed : (n : ℕ) → body_header s n ≡ header n
 
 -- ---- there are no more entries than bytes of them
 
@@ -160,11 +59,145 @@ module _ (payload edit : List ℕ) where
   unfolding run_bytes
   run-many t h rows = flat_map-least (row_bytes payload edit t) (row-least t h) _
 
-  pub contents-many : (rows : List Row) → entry_count tag.Content rows ≤ length (run_bytes payload edit tag.Content rows)
-  contents-many = run-many tag.Content (inl refl)
+module _ (payload edit : List ℕ) (all : List Row) (index : ℕ) where
+  abbrev row : Row
+  row = get_or all index no_row
 
-  pub names-many : (rows : List Row) → entry_count tag.Name rows ≤ length (run_bytes payload edit tag.Name rows)
-  names-many = run-many tag.Name (inr (inl refl))
+  abbrev rest : List Row
+  rest = drop (index + 1) all
 
-  pub pairs-many : (rows : List Row) → entry_count tag.Pair rows ≤ length (run_bytes payload edit tag.Pair rows)
-  pairs-many = run-many tag.Pair (inr (inr refl))
+  abbrev s : Section
+  s = section_at payload edit all index
+
+  -- ---- what it stores: the bytes that its row names, or its entries
+
+  own-stored : (t : Tag) → begins_section t ≡ true → tag_of row.tag ≡ t → entry_tag t ≡ tag.None → (stored_bytes s ≡ span_bytes payload edit (bytes_span row)) × (entries_of t rest ≡ 0)
+  unfolding begun stored_bytes
+  own-stored tag.PlainContents b q n = cc
+  own-stored tag.PackedContents b q n = (rw q, refl)
+  own-stored tag.Names b q n = cc
+  own-stored tag.Arguments b q n = cc
+  own-stored tag.Unknown b q n = (rw q, refl)
+  own-stored tag.Content b q n = cc
+  own-stored tag.Name b q n = cc
+  own-stored tag.Pair b q n = cc
+  own-stored tag.None b q n = cc
+
+  pub record Run (t e : Tag) : Type 0 where
+    pub stored : stored_bytes s ≡ run_bytes payload edit e rest
+    pub count : entries_of t rest ≡ entry_count e rest
+    pub many : entry_count e rest ≤ length (run_bytes payload edit e rest)
+
+  run-stored : (t : Tag) → begins_section t ≡ true → tag_of row.tag ≡ t → (entry_tag t ≡ tag.None → ⊥) → Run t (entry_tag t)
+  unfolding begun stored_bytes
+  run-stored tag.PlainContents b q n =
+      record { stored = rw q (sym (run-contents payload edit rest)); count = refl; many = run-many payload edit tag.Content (inl refl) rest }
+  run-stored tag.PackedContents b q n = absurd (n refl)
+  run-stored tag.Names b q n =
+      record { stored = rw q (sym (run-names payload edit rest)); count = refl; many = run-many payload edit tag.Name (inr (inl refl)) rest }
+  run-stored tag.Arguments b q n =
+      record { stored = rw q (sym (run-pairs payload edit rest)); count = refl; many = run-many payload edit tag.Pair (inr (inr refl)) rest }
+  run-stored tag.Unknown b q n = absurd (n refl)
+  run-stored tag.Content b q n = cc
+  run-stored tag.Name b q n = cc
+  run-stored tag.Pair b q n = cc
+  run-stored tag.None b q n = cc
+
+  -- ---- where it stores that
+
+  starts : (t : Tag) → begins_section t ≡ true → tag_of row.tag ≡ t → start s ≡ start_of t
+  unfolding begun stored_bytes body_header kind_of
+  starts tag.PlainContents b q = rw q
+  starts tag.PackedContents b q = rw q
+  starts tag.Names b q = rw q
+  starts tag.Arguments b q = rw q
+  starts tag.Unknown b q = rw q
+  starts tag.Content b q = cc
+  starts tag.Name b q = cc
+  starts tag.Pair b q = cc
+  starts tag.None b q = cc
+
+  -- where the section ends within the limit, the stored bytes do too
+  within : (t : Tag) → begins_section t ≡ true → tag_of row.tag ≡ t → (at : ℕ) → at + length (encode_section s) ≤ limit → at + start_of t + length (stored_bytes s) ≤ limit
+  within t b q at small = omega (arith, starts t b q, length-section s, le-aligned (filled s))
+
+-- ---- the section at a position, where it may be written
+
+module _ {source : Source} {t : Tag} {p : Position} (m : MayWrite source t p) where
+  abbrev this : Section
+  this = section source p
+
+  -- its stored bytes end within the limit
+  pub fits : p.at + start_of t + length (stored_bytes this) ≤ limit
+  fits = within _ _ (rows source) p.index t m.begins m.writable.1 p.at m.writable.4
+
+  -- it stores the bytes that its row names
+  pub own :
+      {e : Tag} {r : Row} {bytes : List ℕ} →
+      e ≡ entry_tag t →
+      e ≡ tag.None →
+      r ≡ get_or (rows source) p.index no_row →
+      bytes ≡ span_bytes source.payload.now source.edit.now (bytes_span r) →
+      (bytes ≡ stored_bytes this) × (entries_of t (drop (p.index + 1) (rows source)) ≡ 0)
+  own is none row named =
+      let (stored, count) = own-stored source.payload.now source.edit.now (rows source) p.index t m.begins m.writable.1 (sym is ∙ none) in
+      (rw row at named ∙ sym stored, count)
+
+  -- or its entries
+  pub run : {e : Tag} → e ≡ entry_tag t → (e ≡ tag.None → ⊥) → Run source.payload.now source.edit.now (rows source) p.index t e
+  run is some = rw is (run-stored source.payload.now source.edit.now (rows source) p.index t m.begins m.writable.1 (λ none. some (is ∙ none)))
+
+  -- where the row after it stands
+  pub onward : next_section (rows source) p.index ≡ p.index + 1 + entries_of t (drop (p.index + 1) (rows source))
+  onward = rw m.writable.1
+
+  -- what its writer answers and leaves, once what it stores is stored, and closed
+  pub told :
+      {k : SourceInfoSectionType} {header : ℕ → List ℕ} →
+      Headed this k header →
+      (l : List ℕ) {start end i a : ℕ} {whole : List ℕ} →
+      start ≡ p.at →
+      end ≡ p.at + start_of t + length (stored_bytes this) →
+      i ≡ next_section (rows source) p.index →
+      a ≡ start + aligned (end - start) →
+      whole ≡ framed (sets l (p.at + start_of t) (stored_bytes this)) start end k (header (end - (start + start_of t))) →
+      (standing i a ≡ after source p) × (whole ≡ sets l p.at (encode_section this))
+  told h l {end = end} from ends index after closed =
+      let starts = starts source.payload.now source.edit.now (rows source) p.index t m.begins m.writable.1 in
+      let span : end ≡ p.at + filled this = omega (arith, starts) in (
+        rw (index, after, from, closed-size this p.at span),
+        cc (starts, h.kinded, h.headed (end - (p.at + start_of t)), section-closed this p.at span l),
+      )
+
+-- ---- what stands around the stored bytes of a section, by its tag
+
+module _ (source : Source) (p : Position) where
+  abbrev begun-by : Row
+  begun-by = get_or (rows source) p.index no_row
+
+  abbrev entries : Tag → ℕ
+  entries t = entries_of t (drop (p.index + 1) (rows source))
+
+  pub plain-headed : MayWrite source tag.PlainContents p → Headed (section source p) kind.SourceContents (λ n. contents_header begun-by.a (compression_number None) n n (entries tag.PlainContents))
+  unfolding begun body_header kind_of
+  plain-headed m = rw m.writable.1 (record { kinded = refl; headed = λ n. rw (count-leading tag.Content (content_of source.payload.now source.edit.now) (drop (p.index + 1) (rows source))) })
+
+  pub packed-headed : MayWrite source tag.PackedContents p → Headed (section source p) kind.SourceContents (λ n. contents_header begun-by.a (compression_number Zlib) n begun-by.e begun-by.d)
+  unfolding begun body_header kind_of
+  packed-headed m = rw m.writable.1 (record { kinded = refl; headed = λ n. refl })
+
+  pub names-headed : MayWrite source tag.Names p → Headed (section source p) kind.SourceNames (λ n. names_header n (entries tag.Names))
+  unfolding begun body_header kind_of
+  names-headed m = rw m.writable.1 (record { kinded = refl; headed = λ n. rw (count-leading tag.Name (name_of source.payload.now source.edit.now) (drop (p.index + 1) (rows source))) })
+
+  pub arguments-headed : MayWrite source tag.Arguments p → Headed (section source p) kind.Arguments (λ n. arguments_header n (entries tag.Arguments))
+  unfolding begun body_header kind_of
+  arguments-headed m = rw m.writable.1 (record { kinded = refl; headed = λ n. rw (count-leading tag.Pair (pair_of source.payload.now source.edit.now) (drop (p.index + 1) (rows source))) })
+
+  pub unknown-headed : MayWrite source tag.Unknown p → Headed (section source p) (kind.Unknown begun-by.a) (λ n. [])
+  unfolding begun body_header kind_of
+  unknown-headed m = rw m.writable.1 (record { kinded = refl; headed = λ n. refl })
+
+  -- an unknown kind fits its field
+  pub kind-fits : MayWrite source tag.Unknown p → begun-by.a ≤ 65535
+  kind-fits m = rw (unknown-headed m).kinded at m.writable.2

@@ -1,6 +1,7 @@
 -- The sections that are stored turn by turn: what holds before a turn of where the position stands, of how many sections are stored and of the output. It holds at first and
 -- after each turn, and where no row is left it says the whole.
 -- Assumes nothing.
+use Rattle.std.specs.Prelude.{is_ok}
 use Prim.Native.Nat.{ℕ, ◌+◌, ◌-◌, ◌/◌, ◌≤◌, ◌<◌, ◌^◌}
 use mathlib.Core.Bool.{true}
 use mathlib.Core.List.{List, [], flat_map}
@@ -8,10 +9,10 @@ use mathlib.Core.Path.{◌≡◌, refl, sym, ap, ◌∙◌}
 use native.Mathlib.Omega.{arith}
 use lib.ListN.{length, get_or, drop, drop_of_length-le}
 use lib.Seq.{sets, length-sets}
-use Rattle.layout.specs.Checked.{is_good}
 use Rattle.table.specs.Rows.{rows_of, no_row}
 use Rattle.table.specs.Tags.{tag_of, begins_section}
 use Rattle.table.specs.declared.row.Row.{Row}
+use Rattle.table.specs.declared.tag.Tag.{Tag}
 use Rattle.table.proofs.Rows.{length-rows_of}
 use Rattle.format.specs.Encoding.{encode_section}
 use Rattle.format.specs.Resolve.{sections_of}
@@ -21,16 +22,15 @@ use Rattle.write.specs.Position.{standing, Writable, past, section_bytes}
 use Rattle.write.specs.declared.position.Position.{Position}
 use Rattle.write.proofs.SectionLaws.{Left, Next, next-section, next-stored, all_left}
 
--- the number of the tag of the row at an index
-abbrev pub tag_at : List Row → ℕ → ℕ
-tag_at rows index = (get_or rows index no_row).tag
-
--- what the loop's test tells of an index: whether a row of the table stands there
+-- whether a row of the table stands at an index, by how many numbers it has
 pub row-left : (table : List ℕ) (index : ℕ) → index < length table / 7 → index < length (rows_of table)
 row-left table index less = omega (arith, less, length-rows_of table)
 
 pub no-row-left : (table : List ℕ) (index : ℕ) → length table / 7 ≤ index → length (rows_of table) ≤ index
 no-row-left table index over = omega (arith, over, length-rows_of table)
+
+-- the whole rows of a table are counted by its numbers
+pub ruleset rows_counted = (length-rows_of)
 
 module _ (payload edit : List ℕ) (rows : List Row) (output₀ : List ℕ) where
   -- the sections of the rows from an index on
@@ -45,7 +45,7 @@ module _ (payload edit : List ℕ) (rows : List Row) (output₀ : List ℕ) wher
     pub stored : sets output h.at (flat_map encode_section (from h.index)) ≡ sets output₀ 8 (flat_map encode_section (from 0))
     pub same : length output ≡ length output₀
 
-  pub first-turn : is_good (written payload edit rows) ≡ true → Turn (standing 0 8) 0 output₀
+  pub first-turn : is_ok (written payload edit rows) ≡ true → Turn (standing 0 8) 0 output₀
   first-turn good =
       let (left, few, small) = all_left payload edit rows good in
       record { left = left; counted = omega arith; few = few; stored = refl; same = refl }
@@ -59,8 +59,11 @@ module _ (payload edit : List ℕ) (rows : List Row) (output₀ : List ℕ) wher
       next = next-section payload edit rows h.index h.at inside t.left
 
       -- a section can be written, of the tag that its row has
-      pub writable : (tag : ℕ) → tag ≡ tag_at rows h.index → (begins_section (tag_of tag) ≡ true) × Writable payload edit rows (tag_of tag) h
-      writable tag e = (rw e next.begins, (inside, ap tag_of (sym e), next.kind, next.fit, next.small))
+      abbrev tag : Tag
+      tag = tag_of (get_or rows h.index no_row).tag
+
+      pub writable : (begins_section tag ≡ true) × Writable payload edit rows tag h
+      writable = (next.begins, (inside, refl, next.kind, next.fit, next.small))
 
       -- it is counted, and fewer rows are left
       pub more-fits : sections + 1 < 2 ^ 16

@@ -1,3 +1,4 @@
 pub mod Position
 pub mod Run
 pub mod Section
+pub mod Source

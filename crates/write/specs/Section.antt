@@ -36,3 +36,15 @@ section_at payload edit rows index =
 
 abbrev pub next_section : List Row → ℕ → ℕ
 next_section rows index = index + 1 + entries_of (tag_of (get_or rows index no_row).tag) (drop (index + 1) rows)
+
+-- where the stored bytes of a section of a tag start, after its headers
+abbrev pub start_of : Tag → ℕ
+start_of tag.PlainContents = 28
+start_of tag.PackedContents = 28
+start_of tag.Names = 18
+start_of tag.Arguments = 20
+start_of tag.Unknown = 8
+start_of tag.Content = 0
+start_of tag.Name = 0
+start_of tag.Pair = 0
+start_of tag.None = 0

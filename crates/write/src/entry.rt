@@ -1,5 +1,6 @@
 // Entries of contents and of names, and pairs, stored at a place of the output: the text first, and then what stands
-// around it (crate frames). Each answers the place after it.
+// around it (crate frames). Each answers the place after it. A content and a name differ in their header and in what closes
+// them, so one function of both would need a flag for each.
 ghost use Rattle.std.specs.Prelude.{◌≡◌, ◌+◌, ◌≤◌, length};
 ghost use Rattle.std.proofs.lemmas.List.Edits.{sets};
 ghost use Rattle.wire.specs.Length.{wire_size};
@@ -9,6 +10,7 @@ ghost use Rattle.frames.specs.Entry.{name, pair};
 use layout::SourceInfoSectionType;
 
 // A content.
+#[tactic(auto, using(crate::proofs::EntryLaws::contents))]
 pub fn write_content(output: &mut [u8], at: usize, text: &[u8]) -> usize
     requires { at + length (content_entry text.now) ≤ limit }
     ensures value { result ≡ at + length (content_entry text.now) }
@@ -20,6 +22,7 @@ pub fn write_content(output: &mut [u8], at: usize, text: &[u8]) -> usize
 }
 
 // A name, with its content's size.
+#[tactic(auto, using(crate::proofs::EntryLaws::names))]
 pub fn write_name(output: &mut [u8], at: usize, text: &[u8], content_size: u32) -> usize
     requires { at + length (name_entry (name text.now content_size)) ≤ limit }
     ensures value { result ≡ at + length (name_entry (name text.now content_size)) }
@@ -31,6 +34,7 @@ pub fn write_name(output: &mut [u8], at: usize, text: &[u8], content_size: u32) 
 }
 
 // A text with its NUL.
+#[tactic(auto, using(crate::proofs::EntryLaws::text_stored))]
 fn write_text(output: &mut [u8], at: usize, text: &[u8]) -> usize
     requires { at + wire_size (length text.now) ≤ limit }
     ensures value { result ≡ at + wire_size (length text.now) }
@@ -41,6 +45,7 @@ fn write_text(output: &mut [u8], at: usize, text: &[u8]) -> usize
 }
 
 // A pair: its name and its value.
+#[tactic(auto, using(crate::proofs::EntryLaws::pairs))]
 pub fn write_pair(output: &mut [u8], at: usize, key: &[u8], value: &[u8]) -> usize
     requires { at + length (pair_entry (pair key.now value.now)) ≤ limit }
     ensures value { result ≡ at + length (pair_entry (pair key.now value.now)) }

@@ -11,6 +11,7 @@ mod entry;
 mod position;
 mod run;
 mod section;
+mod source;
 mod source_info;
 mod writers;
 
@@ -18,23 +19,24 @@ ghost use Rattle.std.specs.Prelude.{◌≡◌, length};
 ghost use Rattle.format.specs.Write.{write_answer, write_output};
 
 use layout::{Answer, Refusal};
-use sizes::Measured;
+use source::Source;
 
 // Writes rows over a payload and an edit text to a lent output, whole, or refuses them and leaves the output
 // as it was.
-pub fn write<'a>(payload: &'a [u8], edit: &'a [u8], rows: &[u32], output: &mut [u8]) -> Answer
+pub fn write(payload: &[u8], edit: &[u8], rows: &[u32], output: &mut [u8]) -> Answer
     ensures value { result ≡ write_answer payload.now edit.now rows.now (length output.old) }
     ensures output_after { output.new ≡ write_output payload.now edit.now rows.now output.old }
 {
-    match rows::measure(payload, edit, rows) {
-        Measured::Refused(refusal) => Answer::Refused(refusal),
-        Measured::Bytes(size) => {
-            let room = output.len();
-            if room < size as usize {
-                return Answer::Refused(Refusal::NoRoom(size));
-            }
-            source_info::write_srci(payload, edit, rows, output, size);
-            Answer::Accepted(size)
-        }
+    let size = rows::measure(payload, edit, rows)?;
+    let room = output.len();
+    if room < size as usize {
+        return Err(Refusal::NoRoom(size));
     }
+    let source = Source {
+        payload,
+        edit,
+        rows,
+    };
+    source_info::write_srci(&source, output, size);
+    Ok(size)
 }

@@ -1,144 +1,72 @@
-// Sections, stored at a position, which is answered moved on past them. What a section stores goes first, and then what stands around it (crate frames).
-ghost use Rattle.std.specs.Prelude.{◌≡◌};
+// What a section stores, at the place where it goes: the entries that the rows after its own are, or the bytes that its
+// own row names.
+ghost use Rattle.std.specs.Prelude.{◌≡◌, ◌+◌, length, drop};
 ghost use Rattle.std.proofs.lemmas.List.Edits.{sets};
-ghost use Rattle.table.specs.Rows.{rows_of};
-ghost use Rattle.table.specs.declared.tag.Tag.TheVariants as tag;
-ghost use Rattle.write.specs.Position.{Writable, past, section_bytes};
+ghost use Rattle.format.specs.Encoding.{stored_bytes};
+ghost use Rattle.write.specs.Section.{start_of, entries_of, next_section};
+ghost use Rattle.write.specs.Source.{rows, section, MayWrite};
 
 use crate::position::Position;
 use crate::run::write_run;
-use frames::{close_arguments, close_contents, close_names, close_section};
-use layout::{SourceCompression, SourceInfoSectionType, bytes_of};
-use table::{Row, Tag};
+use crate::source::Source;
+use layout::SourceInfoSectionType;
+use table::Tag;
 
-// Names, whose entries are the rows after their own.
-pub fn store_names<'a>(
-    payload: &'a [u8],
-    edit: &'a [u8],
-    rows: &[u32],
-    output: &mut [u8],
-    position: Position,
-) -> Position
-    requires { Writable payload.now edit.now (rows_of rows.now) tag.Names position }
-    ensures value { result ≡ past payload.now edit.now (rows_of rows.now) position }
-    ensures output_after { output.new ≡ sets output.old position.at (section_bytes payload.now edit.now (rows_of rows.now) position) }
+// A section without what stands around its stored bytes: where it starts, where those bytes end, how many entries they
+// are, and the index of the row after them.
+#[derive(Clone, Copy)]
+pub struct Body {
+    pub start: u32,
+    pub end: u32,
+    pub count: u32,
+    pub index: usize,
+}
+
+// How many bytes the headers of a section of a tag have.
+fn start_of(tag: Tag) -> usize
+    ensures { result ≡ start_of tag }
 {
-    let start = position.at;
+    match tag {
+        Tag::PlainContents | Tag::PackedContents => SourceInfoSectionType::CONTENTS_START,
+        Tag::Names => SourceInfoSectionType::NAMES_START,
+        Tag::Arguments => SourceInfoSectionType::ARGS_START,
+        Tag::Unknown => SourceInfoSectionType::SECTION_HEADER_SIZE,
+        // an entry begins no section
+        _ => 0,
+    }
+}
+
+// Stores what the section of a tag at a position stores. Inlined, so that each writer has its tag as a constant.
+#[inline(always)]
+pub fn store_body(source: &Source, tag: Tag, output: &mut [u8], position: Position) -> Body
+    requires { MayWrite source.now tag position }
+    ensures start { result.start ≡ position.at }
+    ensures end { result.end ≡ position.at + start_of tag + length (stored_bytes (section source.now position)) }
+    ensures count { result.count ≡ entries_of tag (drop (position.index + 1) (rows source.now)) }
+    ensures index { result.index ≡ next_section (rows source.now) position.index }
+    ensures output_after { output.new ≡ sets output.old (position.at + start_of tag) (stored_bytes (section source.now position)) }
+{
     let first = position.index + 1;
-    let entries = start + SourceInfoSectionType::NAMES_START;
-    let run = write_run(payload, edit, rows, Tag::Name, first, output, entries);
-    let end = run.at;
-    let index = run.index;
-    let at = close_names(output, start as u32, end as u32, (index - first) as u32);
-    Position { index, at }
-}
-
-// Arguments, whose pairs are the rows after their own.
-pub fn store_arguments<'a>(
-    payload: &'a [u8],
-    edit: &'a [u8],
-    rows: &[u32],
-    output: &mut [u8],
-    position: Position,
-) -> Position
-    requires { Writable payload.now edit.now (rows_of rows.now) tag.Arguments position }
-    ensures value { result ≡ past payload.now edit.now (rows_of rows.now) position }
-    ensures output_after { output.new ≡ sets output.old position.at (section_bytes payload.now edit.now (rows_of rows.now) position) }
-{
-    let start = position.at;
-    let first = position.index + 1;
-    let pairs = start + SourceInfoSectionType::ARGS_START;
-    let run = write_run(payload, edit, rows, Tag::Pair, first, output, pairs);
-    let end = run.at;
-    let index = run.index;
-    let at = close_arguments(output, start as u32, end as u32, (index - first) as u32);
-    Position { index, at }
-}
-
-// Plain contents, whose entries are the rows after their own.
-pub fn store_plain<'a>(
-    payload: &'a [u8],
-    edit: &'a [u8],
-    rows: &[u32],
-    output: &mut [u8],
-    position: Position,
-) -> Position
-    requires { Writable payload.now edit.now (rows_of rows.now) tag.PlainContents position }
-    ensures value { result ≡ past payload.now edit.now (rows_of rows.now) position }
-    ensures output_after { output.new ≡ sets output.old position.at (section_bytes payload.now edit.now (rows_of rows.now) position) }
-{
-    let start = position.at;
-    let row = Row::load(rows, position.index);
-    let first = position.index + 1;
-    let entries = start + SourceInfoSectionType::CONTENTS_START;
-    let run = write_run(payload, edit, rows, Tag::Content, first, output, entries);
-    let end = run.at;
-    let index = run.index;
-    let at = close_contents(
-        output,
-        start as u32,
-        end as u32,
-        row.a,
-        SourceCompression::None,
-        (end - entries) as u32,
-        (index - first) as u32,
-    );
-    Position { index, at }
-}
-
-// Packed contents, whose stream is stored as it is.
-pub fn store_packed<'a>(
-    payload: &'a [u8],
-    edit: &'a [u8],
-    rows: &[u32],
-    output: &mut [u8],
-    position: Position,
-) -> Position
-    requires { Writable payload.now edit.now (rows_of rows.now) tag.PackedContents position }
-    ensures value { result ≡ past payload.now edit.now (rows_of rows.now) position }
-    ensures output_after { output.new ≡ sets output.old position.at (section_bytes payload.now edit.now (rows_of rows.now) position) }
-{
-    let start = position.at;
-    let row = Row::load(rows, position.index);
-    let index = position.index + 1;
-    let stream = bytes_of(payload, edit, row.side, row.b, row.c);
-    let stored = start + SourceInfoSectionType::CONTENTS_START;
-    wire::write_bytes(output, stored, stream);
-    let at = close_contents(
-        output,
-        start as u32,
-        (stored + stream.len()) as u32,
-        row.a,
-        SourceCompression::Zlib,
-        row.e,
-        row.d,
-    );
-    Position { index, at }
-}
-
-// A section of an unknown kind, whose bytes are stored as they are.
-pub fn store_unknown<'a>(
-    payload: &'a [u8],
-    edit: &'a [u8],
-    rows: &[u32],
-    output: &mut [u8],
-    position: Position,
-) -> Position
-    requires { Writable payload.now edit.now (rows_of rows.now) tag.Unknown position }
-    ensures value { result ≡ past payload.now edit.now (rows_of rows.now) position }
-    ensures output_after { output.new ≡ sets output.old position.at (section_bytes payload.now edit.now (rows_of rows.now) position) }
-{
-    let start = position.at;
-    let row = Row::load(rows, position.index);
-    let index = position.index + 1;
-    let bytes = bytes_of(payload, edit, row.side, row.b, row.c);
-    let stored = start + SourceInfoSectionType::SECTION_HEADER_SIZE;
-    wire::write_bytes(output, stored, bytes);
-    let at = close_section(
-        output,
-        start as u32,
-        (stored + bytes.len()) as u32,
-        SourceInfoSectionType::Unknown(row.a as u16),
-    );
-    Position { index, at }
+    let stored = position.at + start_of(tag);
+    match tag.entry_tag() {
+        Tag::None => {
+            let bytes = source.bytes(source.row(position.index));
+            wire::write_bytes(output, stored, bytes);
+            Body {
+                start: position.at as u32,
+                end: (stored + bytes.len()) as u32,
+                count: 0,
+                index: first,
+            }
+        }
+        entry => {
+            let after = write_run(source, entry, first, output, stored);
+            Body {
+                start: position.at as u32,
+                end: after.at as u32,
+                count: (after.index - first) as u32,
+                index: after.index,
+            }
+        }
+    }
 }

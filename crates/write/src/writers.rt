@@ -1,85 +1,105 @@
 // The section writers. Each is lent the one output position, stores the section that the position's row begins, and moves the
-// position on past it.
+// position on past it. One for each kind, as document 01 has it; what they share is `store_body`.
 ghost use Rattle.std.specs.Prelude.{◌≡◌};
 ghost use Rattle.std.proofs.lemmas.List.Edits.{sets};
-ghost use Rattle.table.specs.Rows.{rows_of};
 ghost use Rattle.table.specs.declared.tag.Tag.TheVariants as tag;
-ghost use Rattle.write.specs.Position.{Writable, past, section_bytes};
+ghost use Rattle.format.specs.Encoding.{encode_section};
+ghost use Rattle.write.specs.Source.{section, after, MayWrite};
 
 use crate::position::Position;
-use crate::section::{store_arguments, store_names, store_packed, store_plain, store_unknown};
+use crate::section::store_body;
+use crate::source::Source;
+use frames::{close_arguments, close_contents, close_names, close_section};
+use layout::{SourceCompression, SourceInfoSectionType};
+use table::Tag;
 
 // Arguments.
-pub fn write_arguments<'a>(
-    payload: &'a [u8],
-    edit: &'a [u8],
-    rows: &[u32],
-    output: &mut [u8],
-    position: &mut Position,
-)
-    requires { Writable payload.now edit.now (rows_of rows.now) tag.Arguments position.old }
-    ensures position_after { position.new ≡ past payload.now edit.now (rows_of rows.now) position.old }
-    ensures output_after { output.new ≡ sets output.old position.old.at (section_bytes payload.now edit.now (rows_of rows.now) position.old) }
+pub fn write_arguments(source: &Source, output: &mut [u8], position: &mut Position)
+    requires { MayWrite source.now tag.Arguments position.old }
+    ensures position_after { position.new ≡ after source.now position.old }
+    ensures output_after { output.new ≡ sets output.old position.old.at (encode_section (section source.now position.old)) }
 {
-    *position = store_arguments(payload, edit, rows, output, *position);
+    let body = store_body(source, Tag::Arguments, output, *position);
+    let at = close_arguments(output, body.start, body.end, body.count);
+    *position = Position {
+        index: body.index,
+        at,
+    };
 }
 
 // Names.
-pub fn write_names<'a>(
-    payload: &'a [u8],
-    edit: &'a [u8],
-    rows: &[u32],
-    output: &mut [u8],
-    position: &mut Position,
-)
-    requires { Writable payload.now edit.now (rows_of rows.now) tag.Names position.old }
-    ensures position_after { position.new ≡ past payload.now edit.now (rows_of rows.now) position.old }
-    ensures output_after { output.new ≡ sets output.old position.old.at (section_bytes payload.now edit.now (rows_of rows.now) position.old) }
+pub fn write_names(source: &Source, output: &mut [u8], position: &mut Position)
+    requires { MayWrite source.now tag.Names position.old }
+    ensures position_after { position.new ≡ after source.now position.old }
+    ensures output_after { output.new ≡ sets output.old position.old.at (encode_section (section source.now position.old)) }
 {
-    *position = store_names(payload, edit, rows, output, *position);
+    let body = store_body(source, Tag::Names, output, *position);
+    let at = close_names(output, body.start, body.end, body.count);
+    *position = Position {
+        index: body.index,
+        at,
+    };
 }
 
 // Plain contents.
-pub fn write_plain<'a>(
-    payload: &'a [u8],
-    edit: &'a [u8],
-    rows: &[u32],
-    output: &mut [u8],
-    position: &mut Position,
-)
-    requires { Writable payload.now edit.now (rows_of rows.now) tag.PlainContents position.old }
-    ensures position_after { position.new ≡ past payload.now edit.now (rows_of rows.now) position.old }
-    ensures output_after { output.new ≡ sets output.old position.old.at (section_bytes payload.now edit.now (rows_of rows.now) position.old) }
+pub fn write_plain(source: &Source, output: &mut [u8], position: &mut Position)
+    requires { MayWrite source.now tag.PlainContents position.old }
+    ensures position_after { position.new ≡ after source.now position.old }
+    ensures output_after { output.new ≡ sets output.old position.old.at (encode_section (section source.now position.old)) }
 {
-    *position = store_plain(payload, edit, rows, output, *position);
+    let row = source.row(position.index);
+    let body = store_body(source, Tag::PlainContents, output, *position);
+    let bytes = body.end - (body.start + SourceInfoSectionType::CONTENTS_START as u32);
+    let at = close_contents(
+        output,
+        body.start,
+        body.end,
+        row.a,
+        SourceCompression::None,
+        bytes,
+        body.count,
+    );
+    *position = Position {
+        index: body.index,
+        at,
+    };
 }
 
 // Packed contents.
-pub fn write_packed<'a>(
-    payload: &'a [u8],
-    edit: &'a [u8],
-    rows: &[u32],
-    output: &mut [u8],
-    position: &mut Position,
-)
-    requires { Writable payload.now edit.now (rows_of rows.now) tag.PackedContents position.old }
-    ensures position_after { position.new ≡ past payload.now edit.now (rows_of rows.now) position.old }
-    ensures output_after { output.new ≡ sets output.old position.old.at (section_bytes payload.now edit.now (rows_of rows.now) position.old) }
+pub fn write_packed(source: &Source, output: &mut [u8], position: &mut Position)
+    requires { MayWrite source.now tag.PackedContents position.old }
+    ensures position_after { position.new ≡ after source.now position.old }
+    ensures output_after { output.new ≡ sets output.old position.old.at (encode_section (section source.now position.old)) }
 {
-    *position = store_packed(payload, edit, rows, output, *position);
+    let row = source.row(position.index);
+    let body = store_body(source, Tag::PackedContents, output, *position);
+    let at = close_contents(
+        output,
+        body.start,
+        body.end,
+        row.a,
+        SourceCompression::Zlib,
+        row.e,
+        row.d,
+    );
+    *position = Position {
+        index: body.index,
+        at,
+    };
 }
 
 // A section of an unknown kind.
-pub fn write_unknown<'a>(
-    payload: &'a [u8],
-    edit: &'a [u8],
-    rows: &[u32],
-    output: &mut [u8],
-    position: &mut Position,
-)
-    requires { Writable payload.now edit.now (rows_of rows.now) tag.Unknown position.old }
-    ensures position_after { position.new ≡ past payload.now edit.now (rows_of rows.now) position.old }
-    ensures output_after { output.new ≡ sets output.old position.old.at (section_bytes payload.now edit.now (rows_of rows.now) position.old) }
+pub fn write_unknown(source: &Source, output: &mut [u8], position: &mut Position)
+    requires { MayWrite source.now tag.Unknown position.old }
+    ensures position_after { position.new ≡ after source.now position.old }
+    ensures output_after { output.new ≡ sets output.old position.old.at (encode_section (section source.now position.old)) }
 {
-    *position = store_unknown(payload, edit, rows, output, *position);
+    let row = source.row(position.index);
+    let body = store_body(source, Tag::Unknown, output, *position);
+    let kind = SourceInfoSectionType::Unknown(row.a as u16);
+    let at = close_section(output, body.start, body.end, kind);
+    *position = Position {
+        index: body.index,
+        at,
+    };
 }

@@ -1,29 +1,39 @@
 -- `parse_sections` meets its contract: each turn takes what stands at the reader's place, and what the turns add up to is SectionTurns.antt's.
 use Rattle.std.proofs.Common.{◌∙◌, sym, arith}
+use Rattle.std.proofs.lemmas.Result.{err_from_is_err_and}
 use borrow.Author.Tests.{ltb-true, ltb-false}
-use Rattle.parse.proofs.SectionTurns.{taken-in-payload, rows-bounded, stops, goes_on, leaves, reaches}
+use Rattle.parse.proofs.SectionTurns.{inside, stops-at-header, stops, goes_on, rows-fit, leaves, reaches}
 use Rattle.parse.proofs.source_info.parse_sections.Goals as goal
 
-pub parse_found-requires : goal.parse_found-requires
-parse_found-requires c =
-    let so = c.loop-done.invariant in (
-      rw (c.next-found.ensures.0, so.same) (taken-in-payload _ _),
-      c.requires.payload_len_bound,
-      rows-bounded _ _ _ _ _ so.passed c.requires.payload_len_bound,
-    )
-
-pub returns-in-Refused : goal.returns-in-Refused
-returns-in-Refused c =
+pub returns-in_err-section : goal.returns-in_err-section
+returns-in_err-section c =
+    let p = err_from_is_err_and c.from_residual.result c.from_residual.ensures.1 in
     let so = c.loop-done.invariant in
-    stops _ _ _ _ _ so.passed (omega arith) _ (rw (c.next-found.ensures.0, so.same) at c.in-Refused.ensures)
+    rw (p.1, p.2) (stops-at-header _ _ _ _ _ so.passed (omega arith) _ (rw so.same at (sym c.in_err-section.ensures.0)))
+
+pub parse_section-requires-clause-size_in_bounds : goal.parse_section-requires-clause-size_in_bounds
+parse_section-requires-clause-size_in_bounds c =
+    let so = c.loop-done.invariant in
+    (inside _ _ _ (rw so.same at (sym c.in_ok-section.ensures.0))).1
+
+pub returns-in_err-rows : goal.returns-in_err-rows
+returns-in_err-rows c =
+    let p = err_from_is_err_and c.from_residual-in_err-rows.result c.from_residual-in_err-rows.ensures.1 in
+    let so = c.loop-done.invariant in
+    rw (p.1, p.2) (stops _ _ _ _ _ so.passed (omega arith) _ (rw so.same at (sym c.in_ok-section.ensures.0)) _ (sym c.in_err-rows.ensures))
+
+pub overflow_add-rows : goal.overflow_add-rows
+overflow_add-rows c =
+    let so = c.loop-done.invariant in
+    omega (arith, rows-fit _ _ _ _ _ so.passed (omega arith) _ (rw so.same at (sym c.in_ok-section.ensures.0)) _ (sym c.in_ok-rows.ensures) c.requires.payload_len_bound)
 
 pub loop-done-preserved : goal.loop-done-preserved
 loop-done-preserved c =
     let so = c.loop-done.invariant in
-    rw c.next-found.ensures.1
+    rw c.in_ok-section.ensures.1
     (record {
       same = so.same;
-      passed = rw so.same (goes_on _ _ _ _ _ so.passed (omega arith) _ (rw (c.next-found.ensures.0, so.same) at c.in-Rows.ensures));
+      passed = rw so.same (goes_on _ _ _ _ _ so.passed (omega arith) _ (rw so.same at (sym c.in_ok-section.ensures.0)) _ (sym c.in_ok-rows.ensures));
     })
 
 pub returns-then-has_left : goal.returns-then-has_left

@@ -1,8 +1,9 @@
--- `wire::zeros` meets its contract: where the loop ends, no byte is left to decide.
-use Rattle.std.proofs.Common.{sym, ◌∙◌, drop_of_length-le}
-use Rattle.wire.specs.Padding.{all_zero}
+-- `wire::zeros` meets its contract: it tests each byte as the definition does.
+use Rattle.std.proofs.Common.{◌∙◌, rules, tests}
+use Rattle.std.proofs.lemmas.Iterator.{YieldsList-from_slice}
+use Rattle.std.proofs.lemmas.Iterator.Search.{all_from_yields_List}
+use Rattle.wire.proofs.PaddingLaws.{all_zero-is}
 use Rattle.wire.proofs.padding.zeros.Goals as goal
 
 pub returns : goal.returns
-unfolding all_zero
-returns c = sym (c.loop-i.invariant.1 ∙ rw (drop_of_length-le, c.loop-i-test.false))
+returns c = all_from_yields_List _ _ _ _ c.all.ensures.ran (YieldsList-from_slice c.args.bytes.now cc) (λ x b q k. search (rules, tests)) ∙ all_zero-is c.args.bytes.now

@@ -1,11 +1,11 @@
 -- The loop of `write_sections`: what holds before a turn is `Turns.antt`'s `Turn`.
 use Rattle.std.proofs.Common.{◌-◌, length}
-use Rattle.table.specs.Rows.{rows_of}
+use Rattle.write.specs.Source.{rows}
 use Rattle.write.proofs.Turns.{Turn}
 use Rattle.write.proofs.source_info.write_sections.Given as goal
 
 abbrev pub invariant-loop-position : goal.invariant-loop-position
-invariant-loop-position l = Turn l.payload l.edit (rows_of l.rows) l.fn.output l.position l.sections l.output
+invariant-loop-position l = Turn l.source.payload.now l.source.edit.now (rows l.source) l.fn.output l.position l.sections l.output
 
 abbrev pub decreases-loop-position : goal.decreases-loop-position
-decreases-loop-position l = length (rows_of l.rows) - l.position.index
+decreases-loop-position l = length (rows l.source) - l.position.index

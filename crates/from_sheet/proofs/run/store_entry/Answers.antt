@@ -1,0 +1,53 @@
+-- `store_entry` meets its contract: by its tag a record is a content, a name, a pair or nothing.
+use Rattle.std.proofs.Common.{refl, sym, ap, length, arith}
+use Rattle.from_sheet.specs.Run.{entry_bytes}
+use Rattle.from_sheet.proofs.Said.{content-is, name-is, pair_is}
+use Rattle.from_sheet.proofs.run.store_entry.Goals as goal
+
+pub store_content-requires : goal.store_content-requires
+store_content-requires c =
+    let is = content-is c.args.record.now _ (sym c.in-Content.ensures) c.field.ensures.value in
+    record { field_in_bounds = omega (arith, ap length is); field_bound = omega (arith, ap length is) }
+
+pub store_name-requires : goal.store_name-requires
+store_name-requires c =
+    let is = name-is c.args.record.now _ (sym c.in-Name.ensures) c.field-in-Name.ensures.value c.number.ensures in
+    record { content_size_in_bounds = omega (arith, ap length is); content_size_bound = omega (arith, ap length is) }
+
+pub store_pair-requires : goal.store_pair-requires
+store_pair-requires c =
+    let is = pair_is c.args.record.now _ _ (sym c.in-Pair.ensures) c.field-in-Pair.ensures.value c.field-in-Pair-2.ensures.value in
+    record { value_in_bounds = omega (arith, ap length is); value_bound = omega (arith, ap length is) }
+
+pub returns-in-Content : goal.returns-in-Content
+returns-in-Content c = rw (content-is c.args.record.now _ (sym c.in-Content.ensures) c.field.ensures.value) c.store_content.ensures
+
+pub returns-in-Name : goal.returns-in-Name
+returns-in-Name c = rw (name-is c.args.record.now _ (sym c.in-Name.ensures) c.field-in-Name.ensures.value c.number.ensures) c.store_name.ensures
+
+pub returns-in-Pair : goal.returns-in-Pair
+returns-in-Pair c = rw (pair_is c.args.record.now _ _ (sym c.in-Pair.ensures) c.field-in-Pair.ensures.value c.field-in-Pair-2.ensures.value) c.store_pair.ensures
+
+pub returns-in-PlainContents : goal.returns-in-PlainContents
+unfolding entry_bytes
+returns-in-PlainContents c = rw (← c.in-PlainContents.ensures) (record { value = omega arith; output_after = refl })
+
+pub returns-in-PackedContents : goal.returns-in-PackedContents
+unfolding entry_bytes
+returns-in-PackedContents c = rw (← c.in-PackedContents.ensures) (record { value = omega arith; output_after = refl })
+
+pub returns-in-Names : goal.returns-in-Names
+unfolding entry_bytes
+returns-in-Names c = rw (← c.in-Names.ensures) (record { value = omega arith; output_after = refl })
+
+pub returns-in-Arguments : goal.returns-in-Arguments
+unfolding entry_bytes
+returns-in-Arguments c = rw (← c.in-Arguments.ensures) (record { value = omega arith; output_after = refl })
+
+pub returns-in-Unknown : goal.returns-in-Unknown
+unfolding entry_bytes
+returns-in-Unknown c = rw (← c.in-Unknown.ensures) (record { value = omega arith; output_after = refl })
+
+pub returns-in-None : goal.returns-in-None
+unfolding entry_bytes
+returns-in-None c = rw (← c.in-None.ensures) (record { value = omega arith; output_after = refl })

@@ -1,0 +1,68 @@
+// A line that the first pass has checked, as the record that it says.
+ghost use Rattle.std.specs.Prelude.{true, ◌≡◌, ◌-◌, ◌≤◌, ◌<◌, get_or, ◌+◌};
+ghost use Rattle.table.specs.declared.tag.Tag.TheVariants.{Unknown};
+ghost use Rattle.format.specs.Records.{Record, number_count, text_count, number, text};
+ghost use Rattle.sheet.specs.Lines.{said_by, is_made, is_ruled, is_shown, said};
+ghost use Rattle.from_sheet.specs.Records.{fields_of, tag_in, record_of, LineChecked};
+
+use std::marker::Model;
+use table::Tag;
+
+#[derive(Drop)]
+pub struct LineRecord<'a> {
+    line: &'a [u8],
+    tag: Tag,
+}
+
+impl<'a> Model for LineRecord<'a> {
+    ghost Value = { Record };
+
+    ghost view = { λ l. said_by l.tag (fields_of l.line.now) };
+
+    ghost invariant = { λ l. (is_made l.tag (fields_of l.line.now) ≡ true) × (is_ruled (said_by l.tag (fields_of l.line.now)) ≡ true) };
+}
+
+impl<'a> LineRecord<'a> {
+    // The record of a line.
+    pub fn new(line: &'a [u8]) -> LineRecord<'a>
+        requires { LineChecked line.now }
+        ensures { result ≡ record_of line.now }
+    {
+        LineRecord {
+            line,
+            tag: line_reader::tag_of(line),
+        }
+    }
+
+    pub fn tag(&self) -> Tag
+        ensures { result ≡ self.now.tag }
+    {
+        self.tag
+    }
+
+    // The number at an index.
+    pub fn number(&self, index: usize) -> u32
+        requires { index < number_count self.now.tag }
+        ensures { result ≡ number index self.now }
+    {
+        line_reader::read_number(line_reader::field(self.line, index)).unwrap_or(0)
+    }
+
+    // The kind of an unknown section.
+    pub fn kind(&self) -> u16
+        requires { self.now.tag ≡ Unknown }
+        ensures { result ≡ number 0 self.now }
+    {
+        line_reader::read_number(line_reader::field(self.line, 0)).unwrap_or(0) as u16
+    }
+
+    // A field that says bytes or a text.
+    pub fn field(&self, index: usize) -> &'a [u8]
+        requires at_text { number_count self.now.tag ≤ index }
+        requires in_bounds { index < number_count self.now.tag + text_count self.now.tag }
+        ensures shown { is_shown self.now.tag result.now ≡ true }
+        ensures value { said self.now.tag result.now ≡ text (index - number_count self.now.tag) self.now }
+    {
+        line_reader::field(self.line, index)
+    }
+}

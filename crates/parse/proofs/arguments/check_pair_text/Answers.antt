@@ -1,0 +1,10 @@
+-- `check_pair_text` meets its contract: a run of plain bytes that a NUL ends is a text.
+use Rattle.std.proofs.Common.{ap, sym, arith}
+use Rattle.format.proofs.PairLaws.{text-plain}
+use Rattle.parse.specs.Outcome.{maybe_text}
+use Rattle.parse.proofs.arguments.check_pair_text.Goals as goal
+
+pub returns-then-payload-stop-eq0 : goal.returns-then-payload-stop-eq0
+returns-then-payload-stop-eq0 c =
+    let stop = c.plain_end-stop in
+    sym (ap maybe_text (text-plain c.args.payload.now c.args.at c.args.end stop.result stop.ensures.lower_bound.0 (omega arith) (omega arith) stop.ensures.by_index (omega arith)))

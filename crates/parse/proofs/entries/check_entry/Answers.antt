@@ -1,0 +1,98 @@
+-- `check_entry` meets its contract: its tests are those of `entry`, and what follows the header up to the aligned size is the text, its terminator and
+-- the padding.
+use Rattle.std.proofs.Common.{◌≡◌, ℕ, ◌+◌, ◌-◌, ◌<◌, ◌≤◌, List, ◌∙◌, sym, ap, refl, arith}
+use Rattle.std.proofs.lemmas.Result.{err_from_is_err_and}
+use borrow.Author.Tests.{le-leb, lt-ltb, eq-eqb}
+use Rattle.std.specs.Prelude.{Ok}
+use Rattle.wire.specs.Length.{wire_size}
+use Rattle.wire.specs.Number.{u32_at}
+use Rattle.wire.specs.Padding.{padding, aligned}
+use Rattle.wire.proofs.LengthLaws.{wire_size-terminated, no_text}
+use Rattle.wire.proofs.PaddingLaws.{le-aligned}
+use Rattle.layout.proofs.Checked.{after-fault, after-good}
+use Rattle.layout.specs.Checked.{check, then}
+use Rattle.format.specs.Parse.{terminated_text, entry}
+use Rattle.parse.specs.Outcome.{place_of}
+use Rattle.parse.proofs.entries.check_entry.Goals as goal
+
+pub returns-in_default : goal.returns-in_default
+unfolding entry check
+returns-in_default c =
+    let none : c.read_u32-size.result ≡ 0 = no_text c.read_u32-size.result (omega arith) (sym c.in_default.ensures) in
+    rw (← c.read_u32.ensures, ← c.read_u32-size.ensures, le-leb (c.args.at + c.args.header) c.args.end (omega arith), eq-eqb _ 0 c.if-read_u32-ne0.false, none)
+
+-- the size counts the text and its terminator
+pub terminated_utf8-requires-clause-text_bound : goal.terminated_utf8-requires-clause-text_bound
+terminated_utf8-requires-clause-text_bound c =
+    let counts = wire_size-terminated c.read_u32-size.result _ (sym c.in-Some.ensures) in
+    omega (arith, counts, le-aligned (c.args.header + c.read_u32-size.result))
+
+-- an entry whose tests hold up to its text, which fills it together with its terminator and the zeros
+module _ (header : ℕ) (p : List ℕ) (at end size long : ℕ) where
+  record Held : Type 0 where
+    pub fits : at + header ≤ end
+    pub flags : u32_at p (at + 4) ≡ 0
+    pub told : size ≡ u32_at p (at + 8)
+    pub some : 0 < size
+    pub is : u32_at p at ≡ long
+    pub whole : long ≡ aligned (header + size)
+    pub within : at + long ≤ end
+
+  held : Held → entry header p at end ≡ then (terminated_text p (at + header) size (padding (header + size))) (λ _. Ok (size - 1))
+  unfolding entry check
+  held h =
+      rw (
+        ← h.told,
+        le-leb (at + header) end h.fits,
+        eq-eqb _ 0 h.flags,
+        lt-ltb 0 size h.some,
+        eq-eqb _ _ (h.is ∙ h.whole),
+        le-leb (at + aligned (header + size)) end (omega (arith, h.within, h.whole)),
+      )
+
+-- what `terminated_utf8` was asked of is what is left of the entry's tests
+asked :
+    (p : List ℕ) (at start n end size long header : ℕ) →
+    start ≡ at + header →
+    size ≡ wire_size n →
+    long ≡ aligned (header + size) →
+    terminated_text p start (wire_size n) (at + long - (start + wire_size n)) ≡ terminated_text p (at + header) size (padding (header + size))
+unfolding aligned
+asked p at start n end size long header there counts whole =
+    let zeros : at + long - (start + wire_size n) ≡ padding (header + size) = omega (arith, there, counts, whole) in
+    rw (zeros, there, ← counts) refl
+
+pub returns-in_err-terminated_utf8 : goal.returns-in_err-terminated_utf8
+returns-in_err-terminated_utf8 c =
+    let p = err_from_is_err_and c.from_residual.result c.from_residual.ensures.1 in
+    let counts = wire_size-terminated c.read_u32-size.result _ (sym c.in-Some.ensures) in
+    let whole = c.align4-aligned.ensures in
+    let text = sym (asked _ c.args.at _ _ c.args.end _ _ c.args.header refl counts whole) ∙ sym c.in_err-terminated_utf8.ensures in
+    rw (p.1, p.2)
+    (sym (ap (place_of _) (held _ _ _ _ _ _ (record {
+      fits = omega arith;
+      flags = sym c.read_u32.ensures ∙ c.if-read_u32-ne0.false;
+      told = c.read_u32-size.ensures;
+      some = omega (arith, counts);
+      is = sym c.read_u32-2.ensures ∙ c.if-read_u32-aligned.false;
+      whole = whole;
+      within = omega arith;
+    }) ∙ after-fault _ _ text)))
+
+pub returns : goal.returns
+returns c =
+    let counts = wire_size-terminated c.read_u32-size.result _ (sym c.in-Some.ensures) in
+    let whole = c.align4-aligned.ensures in
+    let text = sym (asked _ c.args.at _ _ c.args.end _ _ c.args.header refl counts whole) ∙ sym c.in_ok-terminated_utf8.ensures in
+    let back : wire_size (c.read_u32-size.result - 1) ≡ c.read_u32-size.result = omega (arith, counts) in
+    sym (ap (place_of _) (held _ _ _ _ _ _ (record {
+      fits = omega arith;
+      flags = sym c.read_u32.ensures ∙ c.if-read_u32-ne0.false;
+      told = c.read_u32-size.ensures;
+      some = omega (arith, counts);
+      is = sym c.read_u32-2.ensures ∙ c.if-read_u32-aligned.false;
+      whole = whole;
+      within = omega arith;
+    }) ∙ after-good _ _ text)
+    ∙ ap (λ (n : ℕ). Ok (c.args.at + aligned (c.args.header + n))) back
+    ∙ ap (λ (n : ℕ). Ok (c.args.at + n)) (sym whole))

@@ -1,0 +1,52 @@
+// What is written: the rows of a table, with the payload and the edit text that they name texts and bytes of.
+ghost use Rattle.std.specs.Prelude.{◌≡◌, length, get_or};
+ghost use Rattle.layout.specs.Spans.{span_bytes};
+ghost use Rattle.table.specs.Rows.{rows_of, no_row, bytes_span, text_span, value_span};
+
+use layout::{bytes_of, text_of};
+use table::Row;
+use wire::TextLength;
+
+#[derive(Clone, Copy)]
+pub struct Source<'a> {
+    pub payload: &'a [u8],
+    pub edit: &'a [u8],
+    pub rows: &'a [u32],
+}
+
+impl<'a> Source<'a> {
+    // How many rows there are. Numbers of the table past its last whole row are none.
+    #[tactic(auto, using(crate::proofs::Turns::rows_counted))]
+    pub fn count(&self) -> usize
+        ensures { result ≡ length (rows_of self.now.rows.now) }
+    {
+        self.rows.len() / Row::WIDTH
+    }
+
+    pub fn row(&self, index: usize) -> Row
+        ensures { result ≡ get_or (rows_of self.now.rows.now) index no_row }
+    {
+        Row::load(self.rows, index)
+    }
+
+    // The text that an entry's row names; of a pair it is the name.
+    pub fn text(&self, row: Row) -> &'a [u8]
+        ensures { result.now ≡ span_bytes self.now.payload.now self.now.edit.now (text_span row) }
+    {
+        text_of(self.payload, self.edit, row.side, row.a, TextLength(row.b))
+    }
+
+    // The value that a pair's row names.
+    pub fn value(&self, row: Row) -> &'a [u8]
+        ensures { result.now ≡ span_bytes self.now.payload.now self.now.edit.now (value_span row) }
+    {
+        text_of(self.payload, self.edit, row.side, row.c, TextLength(row.d))
+    }
+
+    // The bytes that the row of a packed or an unknown section names.
+    pub fn bytes(&self, row: Row) -> &'a [u8]
+        ensures { result.now ≡ span_bytes self.now.payload.now self.now.edit.now (bytes_span row) }
+    {
+        bytes_of(self.payload, self.edit, row.side, row.b, row.c)
+    }
+}
