@@ -1,30 +1,25 @@
 -- What is stored piece by piece is the line.
 -- Assumes nothing.
-use Prim.Native.Nat.{ℕ, ◌+◌, ◌≤◌}
-use mathlib.Core.List.{List, ◌++◌, append_assoc}
-use mathlib.Core.Path.{◌≡◌, refl, ap, ◌∙◌}
+use Prim.Native.Nat.{ℕ, suc, ◌+◌, ◌≤◌}
+use mathlib.Core.List.{List, [], ◌∷◌, ◌++◌, append_assoc, append-nil, map}
+use mathlib.Core.Path.{◌≡◌, refl, sym, ap, ◌∙◌}
+use native.Mathlib.Nat.{add-zero}
 use native.Mathlib.Omega.{arith}
 use lib.ListN.{length, length-append}
 use lib.Seq.{sets}
 use Rattle.wire.proofs.Sets.{sets-joined}
 use Rattle.format.specs.Display.{ascii, decimal, hex, plain_line, packed_line, names_line, arguments_line, unknown_line, heading, line, lines, page}
-use Rattle.display.specs.Summary.{records_line}
+use Rattle.std.proofs.lemmas.List.{length-map, map-append}
+use Rattle.std.specs.List.{filter_map}
+use Rattle.std.specs.Prelude.{Option}
+use Rattle.section_reader.specs.Sections.{Found, sections}
+use Rattle.display.proofs.Numbered.{items}
+use Rattle.display.specs.Summary.{records_line, summary_line, page_of, page_said}
+use Rattle.display.specs.declared.summary.Summary.{Summary}
 
 -- what a function that stores bytes at a place answers and leaves, where they are at most as many as a line has
 abbrev pub Stored : ℕ → List ℕ → ℕ → List ℕ → List ℕ → Type 0
 Stored at before next after bytes = (next ≡ at + length bytes) × ((next ≤ at + 128) × (after ≡ sets before at bytes))
-
--- two of them, one after the other
-pub stored-both :
-    (first second : List ℕ) (at next end : ℕ) (before between : List ℕ) {after : List ℕ} →
-    Stored at before next between first →
-    Stored next between end after second →
-    end ≤ at + 128 →
-    Stored at before end after (first ++ second)
-stored-both first second at next end before between (e, (b, s)) (f, (d, t)) h = (
-  omega (arith, length-append first second),
-  (h, t ∙ rw s (sets-joined first second before at next e)),
-)
 
 -- ---- a line with a number of records
 
@@ -109,17 +104,35 @@ pub ruleset whole_lines = (plain-line, packed-line, names-line, arguments-line, 
 
 -- ---- a page
 
--- the heading of so many texts, and then their lines
-pub page-stored :
-    (texts : List (List ℕ)) (before : List ℕ) {between after : List ℕ} {count start end : ℕ} →
-    count ≡ length texts →
-    (start ≡ length (heading count)) × (between ≡ sets before 0 (heading count)) →
-    (end ≡ start + length (lines 0 texts)) × (after ≡ sets between start (lines 0 texts)) →
-    (end ≡ length (page texts)) × (after ≡ sets before 0 (page texts))
-unfolding page
-page-stored texts before {count = count} {start = start} many (first, headed) (last, stored) =
-    let all : List ℕ = lines 0 texts in
-    rw (← many) (
-      omega (arith, length-append (heading count) all),
-      stored ∙ rw headed (sets-joined (heading count) all before 0 start (omega arith)),
-    )
+lines-append : (place : ℕ) (texts : List (List ℕ)) (text : List ℕ) → lines place (texts ++ text ∷ []) ≡ lines place texts ++ line (place + length texts) text
+unfolding lines
+lines-append place [] text = rw add-zero (append-nil (line place text))
+lines-append place (first ∷ texts) text =
+    let next : place + 1 + length texts ≡ place + suc (length texts) = omega arith in
+    ap (λ (l : List ℕ). line place first ++ l) (rw next at (lines-append (place + 1) texts text)) ∙
+    sym (append_assoc (line place first) (lines (place + 1) texts) (line (place + suc (length texts)) text))
+
+-- no line yet
+pub page-none : (count : ℕ) → page_of count [] ≡ heading count
+unfolding lines
+page-none count = append-nil (heading count)
+
+-- after an item with its place comes its line
+pub page-next :
+    (count place : ℕ) (numbered : List (ℕ × Summary)) (summary : Summary) →
+    place ≡ length numbered →
+    page_of count (items (numbered ++ (place, summary) ∷ [])) ≡ page_of count (items numbered) ++ line place (summary_line summary)
+page-next count place numbered summary e =
+    let texts : List (List ℕ) = map summary_line (items numbered) in
+    let many : 0 + length texts ≡ place = omega (arith, e, length-map (items numbered) summary_line, length-map numbered (λ (n : ℕ × Summary). n.1)) in
+    let added = rw many at (lines-append 0 texts (summary_line summary)) in
+    rw (map-append, map-append)
+    (ap (λ (l : List ℕ). heading count ++ l) added ∙ sym (append_assoc (heading count) (lines 0 texts) (line place (summary_line summary))))
+
+-- a heading that counts the lines after it
+pub page-counted :
+    (said : Found → Option Summary) (p : List ℕ) {count : ℕ} →
+    count ≡ length (filter_map said (sections p)) →
+    page_of count (filter_map said (sections p)) ≡ page_said said p
+unfolding page page_said
+page-counted said p e = rw (length-map (filter_map said (sections p)) summary_line, ← e) refl

@@ -1,5 +1,5 @@
-// The lines of a listing and of a card, stored in a lent output: the heading, the line of a section, and the line of
-// a refused call; and a number in decimal.
+// The pages that a listing and a card are, stored in a lent output: a heading, and a line for each section of which the
+// page says something; the line of a refused call; and a number in decimal, and the hexadecimal digit of both cases.
 //
 // Proved: every function that another crate can call is total, has no `requires`, and stores and answers just what crate
 // format defines (specs/Display.antt, specs/Print.antt). What would be stored past the end is dropped. Nothing is assumed.
@@ -7,28 +7,19 @@
 
 mod line;
 mod number;
+mod page;
+mod summary;
 
 ghost use Rattle.std.specs.Prelude.{◌≡◌, ◌+◌, ◌≤◌, length};
 ghost use Rattle.std.proofs.lemmas.List.Edits.{sets};
-ghost use Rattle.format.specs.Display.{heading};
 ghost use Rattle.format.specs.Display.{line as Display·line};
 ghost use Rattle.format.specs.Print.{number_line};
 ghost use Rattle.display.specs.Summary.{summary_line};
 
 use crate::number::write_number;
-pub use line::Summary;
 pub use number::{hex_digit, write_decimal};
-
-// The first line, of so many sections. Answers its length.
-#[tactic(auto, using(crate::proofs::LineLaws::joined), unfolding(format::specs::Display::ascii))]
-pub fn write_heading(output: &mut [u8], count: u32) -> usize
-    ensures value { result ≡ length (heading count) }
-    ensures upper_bound { result ≤ 45 }
-    ensures output_after { output.new ≡ sets output.old 0 (heading count) }
-{
-    wire::write_bytes(output, 0, b"// Shader Source Info: ");
-    write_number(output, 23, count, b" section(s)\n")
-}
+pub use page::{Page, write_heading, write_page};
+pub use summary::{Summary, summarize};
 
 // The line of a section that has a place in the listing. Answers the place after it.
 pub fn write_line(output: &mut [u8], at: u32, place: u32, summary: Summary) -> usize

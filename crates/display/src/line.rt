@@ -5,16 +5,7 @@ ghost use Rattle.format.specs.Display.{line, unknown_line};
 ghost use Rattle.display.specs.Summary.{summary_line, records_line};
 
 use crate::number::{write_hex, write_number};
-
-// What a section's line says of it: how many records it has, how many bytes it stores, its kind.
-#[derive(Clone, Copy)]
-pub enum Summary {
-    Uncompressed(u32),
-    Zlib(u32, u32),
-    SourceNames(u32),
-    Arguments(u32),
-    Unknown(u16, u32),
-}
+use crate::summary::Summary;
 
 // A line with a name, the number of a section's records, and a text.
 #[tactic(auto, using(crate::proofs::LineLaws::records_line_parts), unfolding(format::specs::Display::ascii))]

@@ -4,7 +4,7 @@ ghost use Rattle.std.proofs.lemmas.List.Edits.{sets};
 ghost use Rattle.format.specs.Display.{decimal, hex};
 ghost use Rattle.display.specs.Digits.{digit_in};
 
-// A number in decimal. Answers its length.
+// A number in decimal. Answers its length, which `write!` to lent bytes does not tell where they end before it.
 #[tactic(auto, using(crate::proofs::Decimals::decimals))]
 pub fn write_decimal(output: &mut [u8], at: usize, n: u32) -> usize
     ensures value { result ≡ length (decimal n) }

@@ -3,13 +3,13 @@
 use Prim.Native.Nat.{ℕ, ◌+◌, ◌-◌, ◌≤◌, ◌<◌}
 use mathlib.Core.Bool.{Bool, true, false, cond, ◌||◌}
 use mathlib.Core.List.{List, [], ◌∷◌, ◌++◌, flat_map}
-use mathlib.Core.Path.{◌≡◌, refl, ap₂}
+use mathlib.Core.Path.{◌≡◌, refl, ap, ap₂, ◌∙◌}
 use native.Mathlib.Numerals.{add-one}
 use native.Mathlib.Omega.{arith}
 use borrow.Author.Tests.{eqb-true}
 use lib.Dec.{eqb}
 use lib.ListN.{length, get_or, take, drop, length-drop, drop_of_length-le}
-use lib.Seq.{drop-cons, drop-drop, take_all}
+use lib.Seq.{drop-cons, take_all}
 use Rattle.find.specs.Find.{until, is_any}
 use Rattle.find.proofs.FindLaws.{until-found, until-more, until-least, until-step}
 use Rattle.std.specs.Prelude.{Some, None}
@@ -88,31 +88,39 @@ pub pairs_end_lem : (s : List ℕ) (i : ℕ) → length s ≤ i → hex_pairs (d
 unfolding hex_pairs flat_map
 pairs_end_lem s i h = rw (drop_of_length-le s h)
 
-pub escape-next : (s : List ℕ) (i : ℕ) → i < length s → escape (drop i s) ≡ escaped (get_or s i 0) ++ escape (drop (i + 1) s)
+-- ---- the rest of a text
+
+-- the bytes from an index on, as a slice has them
+abbrev pub from : ℕ → List ℕ → List ℕ
+from n s = take (length s - n) (drop n s)
+
+from-is : (n : ℕ) (s : List ℕ) → from n s ≡ drop n s
+from-is n s = take_all (length s - n) (drop n s) (omega (arith, length-drop n s))
+
+pub length-from : (n : ℕ) (s : List ℕ) → length (from n s) ≡ length s - n
+length-from n s = ap length (from-is n s) ∙ length-drop n s
+
+pub escape-next : (s : List ℕ) → 1 ≤ length s → escape s ≡ escaped (get_or s 0 0) ++ escape (from 1 s)
 unfolding escape flat_map
-escape-next s i h = rw (add-one, drop-cons s i 0 h)
+escape-next [] h = absurd (omega arith)
+escape-next (b ∷ s) h = rw from-is
 
-pub escape_end : (s : List ℕ) (i : ℕ) → length s ≤ i → escape (drop i s) ≡ []
+pub escape_end : (s : List ℕ) → length s < 1 → escape s ≡ []
 unfolding escape flat_map
-escape_end s i h = rw (drop_of_length-le s h)
+escape_end [] h = refl
+escape_end (b ∷ s) h = absurd (omega arith)
 
--- the run that is found from a place on whose byte stands for itself
-abbrev pub run_at : List ℕ → ℕ → ℕ
-run_at s i = until (is_any backslash tab newline) (take (length s - i) (drop i s))
-
-whole-rest : (s : List ℕ) (i : ℕ) → take (length s - i) (drop i s) ≡ drop i s
-whole-rest s i = take_all (length s - i) (drop i s) (omega (arith, length-drop i s))
+-- the run that is found where the first byte stands for itself
+abbrev pub run_of : List ℕ → ℕ
+run_of s = until (is_any backslash tab newline) s
 
 -- it has a byte, and lies within the text
-pub run-within : (s : List ℕ) (i : ℕ) → i < length s → letter_of (get_or s i 0) ≡ None → (1 ≤ run_at s i) × (i + run_at s i ≤ length s)
-run-within s i h none =
+pub run-within : (s : List ℕ) → 1 ≤ length s → letter_of (get_or s 0 0) ≡ None → (1 ≤ run_of s) × (run_of s ≤ length s)
+run-within s h none =
     let p : ℕ → Bool = is_any backslash tab newline in
-    let most = until-least p (drop i s) in
-    let least = until-step p s i h (no-letter (get_or s i 0) none) in
-    rw whole-rest (omega arith, omega (arith, length-drop i s))
+    let least = until-step p s 0 h (no-letter (get_or s 0 0) none) in
+    (omega arith, until-least p s)
 
 -- and its bytes stand for themselves
-pub run-stands : (s : List ℕ) (i : ℕ) → escape (drop i s) ≡ take (run_at s i) (drop i s) ++ escape (drop (i + run_at s i) s)
-run-stands s i = rw (whole-rest s i, ← drop-drop) (escape-run (drop i s))
-
-pub ruleset runs = (run-within)
+pub run-stands : (s : List ℕ) → escape s ≡ take (run_of s) s ++ escape (from (run_of s) s)
+run-stands s = rw from-is (escape-run s)

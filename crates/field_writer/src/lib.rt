@@ -28,7 +28,8 @@ pub fn write_number(output: &mut [u8], at: u32, n: u32) -> usize
     start + 1 + digits
 }
 
-// The `count` bytes from `start` on; fewer where they end before.
+// The `count` bytes from `start` on; fewer where they end before. A count of 32 bits, and not the bytes alone, keeps the place
+// after them a number for all that may be passed; the same of a text.
 pub fn write_hex(output: &mut [u8], at: u32, bytes: &[u8], start: usize, count: u32) -> usize
     ensures value { result ≡ at + length (tab ∷ hex_pairs (part bytes.now start count)) }
     ensures output_after { output.new ≡ sets output.old at (tab ∷ hex_pairs (part bytes.now start count)) }

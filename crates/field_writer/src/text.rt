@@ -22,26 +22,24 @@ fn letter(byte: u8) -> Option<u8>
     }
 }
 
-// A whole text. Bytes that stand for themselves are copied in runs, so that the place moves on by
-// their lengths. Answers the place after it.
-#[tactic(auto, using(crate::proofs::Fields::runs))]
+// A whole text. Bytes that stand for themselves are copied in runs. Answers the place after it.
 pub fn write_escaped(output: &mut [u8], at: usize, text: &[u8]) -> usize
     requires { at + 2 * length text.now ≤ 2 ^ 60 }
     ensures value { result ≡ at + length (escape text.now) }
     ensures output_after { output.new ≡ sets output.old at (escape text.now) }
 {
     let mut to = at;
-    let mut i = 0;
-    while i < text.len() {
-        if let Some(second) = letter(text[i]) {
+    let mut rest = text;
+    while let [first, after @ ..] = rest {
+        if let Some(second) = letter(*first) {
             wire::write_u16(output, to, u16::from_le_bytes([BACKSLASH, second]));
             to += 2;
-            i += 1;
+            rest = after;
         } else {
-            let run = find::find_any(&text[i..], BACKSLASH, TAB, NEWLINE);
-            wire::write_bytes(output, to, &text[i..i + run]);
+            let run = find::find_any(rest, BACKSLASH, TAB, NEWLINE);
+            wire::write_bytes(output, to, &rest[..run]);
             to += run;
-            i += run;
+            rest = &rest[run..];
         }
     }
     to

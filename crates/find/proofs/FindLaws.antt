@@ -1,6 +1,6 @@
 -- The laws of the first byte that passes a test: where it stands, what stands before it, and a step over bytes that do not pass.
 -- Assumes nothing.
-use Prim.Native.Nat.{ℕ, zero, suc, ◌+◌, ◌*◌, ◌≤◌, ◌<◌}
+use Prim.Native.Nat.{ℕ, zero, suc, ◌+◌, ◌≤◌, ◌<◌}
 use mathlib.Core.Bool.{Bool, true, false, ◌||◌, cond, not}
 use mathlib.Core.List.{List, [], ◌∷◌}
 use mathlib.Core.Path.{◌≡◌, refl, ap, ◌∙◌}
@@ -8,12 +8,13 @@ use native.Mathlib.Nat.{add-zero}
 use native.Mathlib.Numerals.{add-one}
 use native.Mathlib.Omega.{arith}
 use lib.Dec.{eqb, ltb}
-use lib.ListN.{length, get_or, drop, drop_of_length-le}
+use lib.ListN.{length, get_or, take, drop, length-take, drop_of_length-le}
 use lib.Seq.{drop-cons}
-use Rattle.std.specs.List.{position_or_len}
+use lib.Seq.{get_or-take}
+use Rattle.std.specs.List.{All, position_or_len}
 use Rattle.std.specs.Option.{unwrap_or}
 use Rattle.std.proofs.Common.{Option, Some, None}
-use borrow.Author.Tests.{eq-eqb, ne_eqb, ltb-false}
+use borrow.Author.Tests.{ltb-false}
 use Rattle.find.specs.Find.{until, is_any}
 
 -- a byte that is named three times is one byte
@@ -23,13 +24,6 @@ any-one a b = go (eqb b a)
     go : (is : Bool) → (is || is || is) ≡ is
     go true = refl
     go false = refl
-
--- so that byte passes, and another does not
-pub the_one : (a b : ℕ) → b ≡ a → is_any a a a b ≡ true
-the_one a b e = any-one a b ∙ eq-eqb b a e
-
-pub another : (a b : ℕ) → (b ≡ a → ⊥) → is_any a a a b ≡ false
-another a b n = any-one a b ∙ ne_eqb b a n
 
 module _ (passes : ℕ → Bool) where
   -- what is found by what the first byte does
@@ -92,9 +86,6 @@ module _ (passes : ℕ → Bool) where
   pub until-step : (s : List ℕ) (i : ℕ) → i < length s → passes (get_or s i 0) ≡ false → until passes (drop i s) ≡ suc (until passes (drop (i + 1) s))
   until-step s i h e = rw (add-one, drop-cons s i 0 h) (until-more (get_or s i 0) (drop (suc i) s) e)
 
-  pub until-here : (s : List ℕ) (i : ℕ) → i < length s → passes (get_or s i 0) ≡ true → until passes (drop i s) ≡ 0
-  until-here s i h e = rw (drop-cons s i 0 h) (until-found (get_or s i 0) (drop (suc i) s) e)
-
   pub until-past : (s : List ℕ) (i : ℕ) → length s ≤ i → until passes (drop i s) ≡ 0
   unfolding until
   until-past s i h = rw (drop_of_length-le s h)
@@ -112,14 +103,17 @@ module _ (passes : ℕ → Bool) where
       omega arith ∙
       until-run s i n (omega arith) (λ k l. a k (omega arith))
 
-  -- a step over blocks in which none passes
-  pub until-blocks :
-      (s : List ℕ) (n : ℕ) →
-      n * 16 ≤ length s →
-      ((k : ℕ) → k < n → (i : ℕ) → i < 16 → passes (get_or s (k * 16 + i) 0) ≡ false) →
-      n * 16 + until passes (drop (n * 16) s) ≡ until passes s
-  until-blocks s zero h a = omega arith
-  until-blocks s (suc n) h a =
-      ap (λ (m : ℕ). m + until passes (drop m s)) (let e : suc n * 16 ≡ n * 16 + 16 = omega arith in e) ∙
-      until-run s (n * 16) 16 (omega arith) (a n (omega arith)) ∙
-      until-blocks s n (omega arith) (λ k l. a k (omega arith))
+  -- a step over a block in which none passes
+  pub until-block :
+      (s block after : List ℕ) →
+      block ≡ take 16 s →
+      after ≡ drop 16 s →
+      16 ≤ length s →
+      All (λ b. passes b ≡ false) block →
+      until passes s ≡ 16 + until passes after
+  until-block s block after first rest h none =
+      let each : (k : ℕ) → k < 16 → passes (get_or s (0 + k) 0) ≡ false =
+      λ k l.
+      let here : 0 + k ≡ k = omega arith in
+      rw (here, ← get_or-take 16 s k 0 l, ← first) (none k 0 (rw first (omega (arith, length-take 16 s)))) in
+      rw rest (omega (arith, until-run s 0 16 h each))

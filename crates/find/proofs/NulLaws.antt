@@ -1,6 +1,7 @@
 -- The laws of the first NUL: where it stands, what stands before it, and a step over bytes that are none.
 -- Assumes nothing.
-use mathlib.Core.Bool.{Bool, true, false}
+use Rattle.std.specs.Prelude.{is_some, Some, None}
+use mathlib.Core.Bool.{Bool, true, false, cond}
 use mathlib.Core.Path.{◌≡◌, refl, sym, ap, ◌∙◌}
 use mathlib.Core.List.{List, [], ◌∷◌, ◌++◌}
 use Prim.Native.Nat.{ℕ, zero, suc, ◌+◌, ◌≤◌, ◌<◌}
@@ -12,7 +13,7 @@ use lib.ListN.{length, get_or, take, drop, length-take, get_or-eq_default}
 use lib.Seq.{drop-cons, drop-nil, get_or-take}
 use borrow.Author.Tests.{ne_eqb, ltb-true, ltb-false}
 use Rattle.find.specs.Find.{until, is_any}
-use Rattle.find.specs.Nul.{until_nul}
+use Rattle.find.specs.Nul.{until_nul, has_nul, first_nul}
 use Rattle.find.proofs.FindLaws.{any-one}
 
 over : (b : ℕ) (s : List ℕ) → until_nul (suc b ∷ s) ≡ suc (until_nul s)
@@ -37,6 +38,25 @@ until-before [] k h e = omega arith
 until-before (zero ∷ s) k h e = omega arith
 until-before (suc b ∷ s) zero h e = omega arith
 until-before (suc b ∷ s) (suc k) h e = until-before s k (omega (arith, over b s)) e
+
+-- ---- what a search for it answers
+
+pub some-nul : (s : List ℕ) → is_some (first_nul s) ≡ has_nul s
+some-nul s = go (has_nul s)
+  where
+    go : (b : Bool) → is_some (cond b (Some (until_nul s)) None) ≡ b
+    go true = refl
+    go false = refl
+
+pub nul-place : (s : List ℕ) (n : ℕ) → Some n ≡ first_nul s → (n ≡ until_nul s) × (until_nul s < length s)
+nul-place s n e = go (has_nul s) refl e
+  where
+    go : (b : Bool) → has_nul s ≡ b → Some n ≡ cond b (Some (until_nul s)) None → (n ≡ until_nul s) × (until_nul s < length s)
+    go true h e = (cc, ltb-true _ _ h)
+    go false h e = let z : ◌≡◌ {A = ℕ} 0 1 = cc in absurd (omega arith)
+
+pub no-nul : (s : List ℕ) → None ≡ first_nul s → length s ≤ until_nul s
+no-nul s e = ltb-false _ _ (sym (some-nul s) ∙ ap is_some (sym e))
 
 -- a NUL inside a prefix is the first of the whole
 pub until-prefix : (s : List ℕ) (n : ℕ) → until_nul s < n → until_nul (take n s) ≡ until_nul s

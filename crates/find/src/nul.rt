@@ -1,17 +1,19 @@
 // Where a text ends: at the first NUL.
 ghost use Rattle.std.specs.Prelude.{◌≡◌, drop};
-ghost use Rattle.find.specs.Nul.{until_nul};
+ghost use Rattle.find.specs.Nul.{until_nul, first_nul};
 
 use crate::find::find_from;
 
-// How many bytes stand before the first NUL; all of them where there is none.
-pub fn find_nul(bytes: &[u8]) -> usize
-    ensures { result ≡ until_nul bytes.now }
+// The place of the first NUL, if there is one.
+pub fn find_nul(bytes: &[u8]) -> Option<usize>
+    ensures { result ≡ first_nul bytes.now }
 {
-    find_from(bytes, 0, 0)
+    let end = find_from(bytes, 0, 0);
+    (end < bytes.len()).then_some(end)
 }
 
-// The same from a place on. Many texts are empty, and the first byte tells so without a search.
+// How many bytes stand before the first NUL from a place on; all of them where there is none. A number and no `Option`: each
+// caller measures a text whose NUL is known to be there. Many texts are empty, and the first byte tells so without a search.
 pub fn find_nul_from(bytes: &[u8], at: usize) -> usize
     ensures { result ≡ until_nul (drop at bytes.now) }
 {

@@ -1,7 +1,7 @@
 -- A payload that is the encoding of well-formed sections, with their rows: these, over it and whatever edit text, resolve to the sections and write
 -- the payload again; row by row they say what the sections do.
 -- Assumes nothing.
-use Rattle.std.specs.Prelude.{Ok}
+use Rattle.std.specs.Prelude.{Ok, None}
 use Prim.Native.Nat.{ℕ, ◌+◌}
 use mathlib.Core.Bool.{true}
 use mathlib.Core.List.{List, ◌++◌, map, flat_map}
@@ -10,7 +10,6 @@ use native.Mathlib.Omega.{arith}
 use lib.ListN.{length}
 use Rattle.layout.specs.Checked.{Checked}
 use Rattle.table.specs.declared.row.Row.{Row}
-use Rattle.table.specs.declared.tag.Tag.TheVariants.{None}
 use Rattle.layout.proofs.Checked.{check-passes, then-passes}
 use Rattle.format.specs.Encoding.{u16, u32, encode_section, encode, within_limits}
 use Rattle.format.specs.Resolve.{sections_of, resolve}

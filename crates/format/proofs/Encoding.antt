@@ -13,15 +13,11 @@ use Rattle.wire.specs.Length.{wire_size}
 use Rattle.wire.proofs.NumberLaws.{length-bytes_of}
 use Rattle.wire.proofs.PaddingLaws.{aligned-multiple}
 use Rattle.format.specs.Sections.{Name, Pair, Section, plain, packed, names, arguments, unknown}
-use Rattle.format.specs.Encoding.{padded, content_entry, name_entry, pair_entry, stored_bytes, body_header, encode_section, encode, limit, all_countable, within_limits}
+use Rattle.format.specs.Encoding.{content_entry, name_entry, pair_entry, stored_bytes, body_header, encode_section, encode, limit, all_countable, within_limits}
 use Rattle.layout.proofs.Lists.{flat_map-multiple}
 
 -- brings the length of a record to one sum, its numerals added up
 ruleset lengths = (length-append, length-bytes_of, length-replicate, ← add_assoc)
-
-pub length-padded : (bytes : List ℕ) → length (padded bytes) ≡ aligned (length bytes)
-unfolding aligned
-length-padded bytes = simp lengths
 
 pub length-content_entry : (text : List ℕ) → length (content_entry text) ≡ aligned (12 + wire_size (length text))
 unfolding content_entry aligned
@@ -58,12 +54,6 @@ length-encode_section s = simp (lengths, length-body_header)
 pub length-encode : (ss : List Section) → length (encode ss) ≡ 8 + length (flat_map encode_section ss)
 unfolding encode
 length-encode ss = simp lengths
-
-pub content_entry-multiple : (text : List ℕ) → length (content_entry text) % 4 ≡ 0
-content_entry-multiple text = rw length-content_entry (aligned-multiple _)
-
-pub name_entry-multiple : (n : Name) → length (name_entry n) % 4 ≡ 0
-name_entry-multiple n = rw length-name_entry (aligned-multiple _)
 
 pub encode_section-multiple : (s : Section) → length (encode_section s) % 4 ≡ 0
 encode_section-multiple s = rw length-encode_section (aligned-multiple _)

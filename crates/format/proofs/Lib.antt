@@ -1,5 +1,4 @@
 -- Reading, by its tests
-pub mod BodyTests
 pub mod SectionTests
 pub mod FrameLaws
 pub mod EntryLaws

@@ -18,7 +18,6 @@ use Rattle.layout.specs.Checked.{Checked, check, then}
 use Rattle.layout.specs.Spans.{span, part}
 use Rattle.layout.specs.TextCheck.{check_text}
 use Rattle.table.specs.Rows.{pair_row}
-use Rattle.layout.specs.declared.refusal.Refusal.{Refusal}
 use Rattle.layout.specs.declared.refusal.Refusal.TheVariants.{OpenText, NotUtf8}
 use Rattle.table.specs.declared.row.Row.{Row}
 use Rattle.layout.proofs.Checked.{check-good, then-good, after-fault, after-good}
@@ -97,15 +96,7 @@ module _ (p : List ℕ) (at end : ℕ) where
 
   -- ---- a pair
 
-  pub pair-no-name : {refusal : Refusal} → pair_text p at end ≡ Err refusal → pair p at end ≡ Err refusal
-  unfolding pair then
-  pair-no-name e = rw e
-
   module _ (name : ℕ) (e : pair_text p at end ≡ Ok name) where
-    pub pair-no-value : {refusal : Refusal} → pair_text p (at + wire_size name) end ≡ Err refusal → pair p at end ≡ Err refusal
-    unfolding pair then
-    pair-no-value f = rw (e, f)
-
     pub pair_found : (value : ℕ) → pair_text p (at + wire_size name) end ≡ Ok value → pair p at end ≡ Ok (pair_row (span 0 at name) (span 0 (at + wire_size name) value))
     unfolding pair then
     pair_found value f = rw (e, f)

@@ -1,7 +1,7 @@
 -- The public rows of sections that stand in a payload obey the rules of rows and say the public sections, so that the public copy of an encoding
 -- is the encoding of these.
 -- Assumes nothing.
-use Rattle.std.specs.Prelude.{Ok}
+use Rattle.std.specs.Prelude.{Ok, Option, Some, None}
 use Prim.Native.Nat.{ℕ, ◌+◌, ◌≤◌}
 use mathlib.Core.Bool.{true}
 use mathlib.Core.List.{List, [], ◌∷◌, ◌++◌, map, flat_map, map-map, map-append}
@@ -17,7 +17,7 @@ use Rattle.layout.specs.Spans.{side_of}
 use Rattle.layout.proofs.Checked.{check-passes, then-passes}
 use Rattle.layout.proofs.Lists.{flat_map-append}
 use Rattle.table.specs.Rows.{no_row, spans_by}
-use Rattle.table.specs.Tags.{tag_of, entry_tag}
+use Rattle.table.specs.Tags.{tag_of, entry_after}
 use Rattle.table.specs.declared.row.Row.{Row}
 use Rattle.table.specs.declared.tag.Tag.{Tag}
 use Rattle.table.specs.declared.tag.Tag.TheVariants as tag
@@ -85,12 +85,12 @@ map-const b (a ∷ l) = ap (◌∷◌ b) (map-const b l)
 
 module _ (p : List ℕ) where
   -- of a content nothing
-  content-hidden : Says p [] tag.Content content_entry content_kept (content_of p []) (λ text. [])
+  content-hidden : Says p [] (Some tag.Content) content_entry content_kept (content_of p []) (λ text. [])
   unfolding begun public_row
   content-hidden at text s = (refl, refl, λ rows. refl)
 
   -- of a name its text
-  name-shown : Says p [] tag.Name name_entry name_kept (name_of p []) (λ (n : Name). record { text = n.text; content_size = 1 })
+  name-shown : Says p [] (Some tag.Name) name_entry name_kept (name_of p []) (λ (n : Name). record { text = n.text; content_size = 1 })
   unfolding public_row
   name-shown = name-says p [] (λ n. 1)
 
@@ -102,12 +102,12 @@ module _ (p : List ℕ) where
     unfolding public_rows public_row flat_map rows_of_section sections_of begun stored_bytes section_of fact_of
     public-says (plain header texts) s =
         let run = section-stored (plain header texts) p at s in
-        let (leads, others) = run-says p [] tag.Content refl content_entry content_kept (content_of p []) _ content-hidden rest opens texts (at + 28) run in
+        let (leads, others) = run-says p [] (Some tag.Content) refl content_entry content_kept (content_of p []) _ content-hidden rest opens texts (at + 28) run in
         rw (run-public content_entry content_placed (λ at text. refl) texts (at + 28), leads, map-const {B = List ℕ} [] texts, others)
     public-says (packed header stream count uncompressed) s = refl
     public-says (names ns) s =
         let run = section-stored (names ns) p at s in
-        let (leads, others) = run-says p [] tag.Name refl name_entry name_kept (name_of p []) _ name-shown rest opens ns (at + 18) run in
+        let (leads, others) = run-says p [] (Some tag.Name) refl name_entry name_kept (name_of p []) _ name-shown rest opens ns (at + 18) run in
         rw (run-public name_entry name_placed (λ at n. refl) ns (at + 18), leads, map-map, others)
     public-says (arguments xs) s =
         rw (run-public pair_entry pair_placed (λ at x. refl) xs (at + 20)) (section-says p [] at rest opens (arguments xs) s)
@@ -125,13 +125,13 @@ module _ (p : List ℕ) where
 
   -- ---- that they obey the rules
 
-  content-obeys : PassesAfter p [] tag.Content content_entry content_kept Text
+  content-obeys : PassesAfter p [] (Some tag.Content) content_entry content_kept Text
   unfolding public_row obeys tag_rule spans_by all_inside check_texts side_of all_zero
   content-obeys previous at text after ok room s =
       let within = le-leb (nothing.start + nothing.count) (length p) (omega (arith, length-content_entry text, le-aligned (12 + wire_size (length text)))) in
-      ((rw (same_tag_lem (entry_tag previous) tag.Content after, within), then-passes _ _ (ok-text p nothing.start nothing.count [] refl empty-text) refl), refl)
+      ((rw (same_tag_lem (entry_after previous) (Some tag.Content) after, within), then-passes _ _ (ok-text p nothing.start nothing.count [] refl empty-text) refl), refl)
 
-  name-obeys : PassesAfter p [] tag.Name name_entry name_kept NameOk
+  name-obeys : PassesAfter p [] (Some tag.Name) name_entry name_kept NameOk
   unfolding public_row
   name-obeys = name-passes p [] (λ n. 1)
 
@@ -140,22 +140,22 @@ module _ (p : List ℕ) where
       WellFormed s →
       at + length (encode_section s) ≤ length p →
       Stands p at (encode_section s) →
-      ((previous : Tag) → check_rows p [] previous after ≡ Ok tt) →
-      (previous : Tag) → check_rows p [] previous (public_rows (rows_of_section at s) ++ after) ≡ Ok tt
+      ((previous : Option Tag) → check_rows p [] previous after ≡ Ok tt) →
+      (previous : Option Tag) → check_rows p [] previous (public_rows (rows_of_section at s) ++ after) ≡ Ok tt
   unfolding public_rows public_row flat_map rows_of_section stored_bytes obeys tag_rule spans_by all_inside check_texts side_of all_zero
   public-passes (plain header texts) at after ok room s passes previous =
       let within = stored-within p [] (plain header texts) at room in
       rw (run-public content_entry content_placed (λ at text. refl) texts (at + 28))
       (passes-first p [] previous _ _ (refl, refl)
-      (run-passes p [] tag.Content refl content_entry content_kept Text content-obeys after passes texts tag.PlainContents (at + 28) refl ok.1 within (section-stored (plain header texts) p at s)))
+      (run-passes p [] (Some tag.Content) refl content_entry content_kept Text content-obeys after passes texts (Some tag.PlainContents) (at + 28) refl ok.1 within (section-stored (plain header texts) p at s)))
   public-passes (packed header stream count uncompressed) at after ok room s passes previous =
       let within = stored-within p [] (packed header stream count uncompressed) at room in
-      passes-first p [] previous _ _ (rw (le-leb (nothing.start + nothing.count) (length p) (omega arith)), refl) (passes tag.PackedContents)
+      passes-first p [] previous _ _ (rw (le-leb (nothing.start + nothing.count) (length p) (omega arith)), refl) (passes (Some tag.PackedContents))
   public-passes (names ns) at after ok room s passes previous =
       let within = stored-within p [] (names ns) at room in
       rw (run-public name_entry name_placed (λ at n. refl) ns (at + 18))
       (passes-first p [] previous _ _ (refl, refl)
-      (run-passes p [] tag.Name refl name_entry name_kept NameOk name-obeys after passes ns tag.Names (at + 18) refl ok within (section-stored (names ns) p at s)))
+      (run-passes p [] (Some tag.Name) refl name_entry name_kept NameOk name-obeys after passes ns (Some tag.Names) (at + 18) refl ok within (section-stored (names ns) p at s)))
   public-passes (arguments xs) at after ok room s passes previous =
       rw (run-public pair_entry pair_placed (λ at x. refl) xs (at + 20)) (section-passes p [] (arguments xs) at after ok room s passes previous)
   public-passes (unknown kind bytes) at after ok room s passes previous = passes previous
@@ -165,7 +165,7 @@ module _ (p : List ℕ) where
       All WellFormed ss →
       at + length (flat_map encode_section ss) ≤ length p →
       Stands p at (flat_map encode_section ss) →
-      (previous : Tag) → check_rows p [] previous (public_rows (rows_from at ss)) ≡ Ok tt
+      (previous : Option Tag) → check_rows p [] previous (public_rows (rows_from at ss)) ≡ Ok tt
   unfolding flat_map
   public-rows-pass [] at ok room s previous = unfold public_rows rows_from check_rows in refl
   public-rows-pass (t ∷ ss) at (ok, oks) room s previous =
@@ -181,7 +181,7 @@ module _ (ss : List Section) (ok : All WellFormed ss) (fit : within_limits (publ
   pub public-written : written (encode ss) [] (public_rows (rows_from 8 ss)) ≡ Ok (encode (public_sections ss))
   unfolding written resolve
   public-written =
-      let obey = public-rows-pass (encode ss) ss 8 ok (omega (arith, length-encode ss)) (stand ss) tag.None in
+      let obey = public-rows-pass (encode ss) ss 8 ok (omega (arith, length-encode ss)) (stand ss) None in
       let say = ap {B = Checked (List Section)} (λ (l : List Section). Ok l) (public-rows-say (encode ss) ss 8 (stand ss)) in
       then-passes _ _ (then-passes _ _ obey say) (check-passes _ _ _ fit refl)
 

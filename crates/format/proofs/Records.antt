@@ -1,13 +1,15 @@
 -- Records and sections say the same: the sections of the records of sections are these sections, and the records of the sections of records that stand in
 -- order are these records.
 -- Assumes nothing.
+use Rattle.std.specs.Prelude.{Option, Some, None}
 use Prim.Native.Nat.{ℕ}
 use mathlib.Core.Bool.{true, false, and-eq-true_iff}
 use mathlib.Core.List.{List, [], ◌∷◌, ◌++◌, map, flat_map, append-nil}
 use mathlib.Core.Path.{◌≡◌, refl, sym, ap, ap₂, ◌∙◌}
 use native.Mathlib.Omega.{arith}
+use Rattle.std.proofs.lemmas.Option.{none-some}
 use lib.ListN.{length, get_or}
-use Rattle.table.specs.Tags.{same_tag, entry_tag, begins_section}
+use Rattle.table.specs.Tags.{same_tag, entry_tag, entry_after, begins_section, opens_section}
 use Rattle.table.specs.declared.tag.Tag.{Tag}
 use Rattle.table.specs.declared.tag.Tag.TheVariants as tag
 use Rattle.table.proofs.Tags.{tag_same, tag-discrete, entry-begins-none}
@@ -20,24 +22,26 @@ use Rattle.format.proofs.RecordsByTag.{leading-more, leading-ends}
 never : true ≡ false → ⊥
 never e = let z : ◌≡◌ {A = ℕ} 0 1 = cc in omega arith
 
+pub some_same : {a b : Tag} → ◌≡◌ {A = Option Tag} (Some a) (Some b) → a ≡ b
+some_same q = cc
+
 -- ---- a record by its place and tag
 
 -- where a record may stand: it begins a section, or it is an entry of what stands before it, and after it others of its tag may stand
-pub data Placed (previous own : Tag) : Type 0 where
+pub data Placed (previous : Option Tag) (own : Tag) : Type 0 where
   begins : begins_section own ≡ true → Placed previous own
-  entry : begins_section own ≡ false → entry_tag previous ≡ own → entry_tag own ≡ own → Placed previous own
+  entry : begins_section own ≡ false → entry_after previous ≡ Some own → entry_tag own ≡ Some own → Placed previous own
 
-pub placed : (previous own : Tag) → is_placed previous own ≡ true → Placed previous own
+pub placed : (previous : Option Tag) (own : Tag) → is_placed previous own ≡ true → Placed previous own
 unfolding same_tag
 placed previous tag.PlainContents h = begins refl
 placed previous tag.PackedContents h = begins refl
 placed previous tag.Names h = begins refl
 placed previous tag.Arguments h = begins refl
 placed previous tag.Unknown h = begins refl
-placed previous tag.Content h = entry refl (tag_same (entry_tag previous) tag.Content h) refl
-placed previous tag.Name h = entry refl (tag_same (entry_tag previous) tag.Name h) refl
-placed previous tag.Pair h = entry refl (tag_same (entry_tag previous) tag.Pair h) refl
-placed previous tag.None h = let z : ◌≡◌ {A = ℕ} 0 1 = cc in absurd (omega arith)
+placed previous tag.Content h = entry refl (tag_same (entry_after previous) (Some tag.Content) h) refl
+placed previous tag.Name h = entry refl (tag_same (entry_after previous) (Some tag.Name) h) refl
+placed previous tag.Pair h = entry refl (tag_same (entry_after previous) (Some tag.Pair) h) refl
 
 -- a record that is no section's begins none
 pub begins-none : (t : Tag) → begins_section t ≡ false → (r : Record) (rs : List Record) → begun t r rs ≡ []
@@ -50,12 +54,11 @@ begins-none tag.Unknown b r rs = absurd (never b)
 begins-none tag.Content b r rs = refl
 begins-none tag.Name b r rs = refl
 begins-none tag.Pair b r rs = refl
-begins-none tag.None b r rs = refl
 
 -- ---- the sections of the records of sections
 
-section-no-entry : (own t : Tag) → begins_section own ≡ true → begins_section t ≡ false → own ≡ t → ⊥
-section-no-entry own t b e q = never (sym b ∙ ap begins_section q ∙ e)
+section-no-entry : (own : Tag) (t : Option Tag) → begins_section own ≡ true → opens_section t ≡ false → Some own ≡ t → ⊥
+section-no-entry own t b e q = never (sym b ∙ ap opens_section q ∙ e)
 
 -- what the records of a section begin with
 first-record : (s : Section) → (r : Record) × (rs : List Record) × (records_of s ≡ r ∷ rs) × (begins_section r.tag ≡ true)
@@ -67,7 +70,7 @@ first-record (arguments ps) = (_, _, refl, refl)
 first-record (unknown kind bytes) = (_, _, refl, refl)
 
 -- so no entry stands there
-leading-none : {A : Type 0} (t : Tag) (f : Record → A) → begins_section t ≡ false → (ss : List Section) → leading t f (records ss) ≡ []
+leading-none : {A : Type 0} (t : Option Tag) (f : Record → A) → opens_section t ≡ false → (ss : List Section) → leading t f (records ss) ≡ []
 unfolding records flat_map
 leading-none t f e [] = unfold leading in refl
 leading-none t f e (s ∷ ss) =
@@ -85,10 +88,10 @@ module _
     (entry : begins_section t ≡ false)
     (ss : List Section)
   where
-    leading-entries : (xs : List A) → leading t f (map own xs ++ records ss) ≡ xs
-    leading-entries [] = leading-none t f entry ss
+    leading-entries : (xs : List A) → leading (Some t) f (map own xs ++ records ss) ≡ xs
+    leading-entries [] = leading-none (Some t) f entry ss
     leading-entries (x ∷ xs) =
-        leading-more t f (own x) (map own xs ++ records ss) (tagged x) ∙ ap₂ (λ (a : A) (l : List A). a ∷ l) (back x) (leading-entries xs)
+        leading-more (Some t) f (own x) (map own xs ++ records ss) (ap Some (tagged x)) ∙ ap₂ (λ (a : A) (l : List A). a ∷ l) (back x) (leading-entries xs)
 
     sections-after : (xs : List A) → sections (map own xs ++ records ss) ≡ sections (records ss)
     unfolding sections
@@ -147,27 +150,20 @@ rebuilt r t q n s = rw (← q, ← n, ← s)
 leading-back :
     {A : Type 0} (t : Tag) (f : Record → A) (own : A → Record) →
     ((r : Record) → Shaped r → r.tag ≡ t → own (f r) ≡ r) →
-    (rs : List Record) → All Shaped rs → map own (leading t f rs) ≡ leading t (λ (r : Record). r) rs
+    (rs : List Record) → All Shaped rs → map own (leading (Some t) f rs) ≡ leading (Some t) (λ (r : Record). r) rs
 leading-back t f own back [] ok = unfold leading in refl
 leading-back t f own back (r ∷ rs) (ok, oks) =
-    elim (tag-discrete r.tag t) [
+    elim (tag-discrete (Some r.tag) (Some t)) [
       | yes q ↦
-          rw (leading-more t f r rs q, leading-more t (λ (r : Record). r) r rs q)
-          (ap₂ (λ (a : Record) (l : List Record). a ∷ l) (back r ok q) (leading-back t f own back rs oks))
-      | no n ↦ rw (leading-ends t f r rs n, leading-ends t (λ (r : Record). r) r rs n)
+          rw (leading-more (Some t) f r rs q, leading-more (Some t) (λ (r : Record). r) r rs q)
+          (ap₂ (λ (a : Record) (l : List Record). a ∷ l) (back r ok (some_same q)) (leading-back t f own back rs oks))
+      | no n ↦ rw (leading-ends (Some t) f r rs n, leading-ends (Some t) (λ (r : Record). r) r rs n)
     ]
 
-pub no_record : (previous : Tag) → is_placed previous tag.None ≡ true → ⊥
-unfolding same_tag
-no_record previous e = never (sym e)
-
--- no record has the tag that is none
-leading-no-tag : {A : Type 0} (f : Record → A) (previous : Tag) (rs : List Record) → in_order previous rs ≡ true → leading tag.None f rs ≡ []
-unfolding in_order
-leading-no-tag f previous [] h = unfold leading in refl
-leading-no-tag f previous (r ∷ rs) h =
-    let (here, rest) = (and-eq-true_iff (is_placed previous r.tag) (in_order r.tag rs)).0 h in
-    leading-ends tag.None f r rs (λ q. no_record previous (rw q at here))
+-- no records are of no tag
+pub leading-no-tag : {A : Type 0} (f : Record → A) (rs : List Record) → leading None f rs ≡ []
+leading-no-tag f [] = unfold leading in refl
+leading-no-tag f (r ∷ rs) = leading-ends None f r rs (λ q. none-some r.tag (sym q))
 
 -- each record from its numbers and texts
 module _ (r : Record) (ok : Shaped r) where
@@ -208,46 +204,43 @@ begun-back :
     begins_section t ≡ true →
     Shaped r →
     All Shaped rs →
-    in_order t rs ≡ true →
     records (begun t r rs) ≡ r ∷ leading (entry_tag t) (λ (r : Record). r) rs
 unfolding begun records records_of flat_map
-begun-back tag.PlainContents r rs q b ok oks order =
+begun-back tag.PlainContents r rs q b ok oks =
     ap₂ (λ (a : Record) (l : List Record). a ∷ l) (plain_back r ok q) (append-nil _ ∙ leading-back tag.Content (text 0) content_record content-back rs oks)
-begun-back tag.PackedContents r rs q b ok oks order =
-    ap₂ (λ (a : Record) (l : List Record). a ∷ l) (packed-back r ok q) (sym (leading-no-tag (λ (r : Record). r) tag.PackedContents rs order))
-begun-back tag.Names r rs q b ok oks order =
+begun-back tag.PackedContents r rs q b ok oks =
+    ap₂ (λ (a : Record) (l : List Record). a ∷ l) (packed-back r ok q) (sym (leading-no-tag (λ (r : Record). r) rs))
+begun-back tag.Names r rs q b ok oks =
     ap₂ (λ (a : Record) (l : List Record). a ∷ l) (names-back r ok q) (append-nil _ ∙ leading-back tag.Name name_of name_record name_back rs oks)
-begun-back tag.Arguments r rs q b ok oks order =
+begun-back tag.Arguments r rs q b ok oks =
     ap₂ (λ (a : Record) (l : List Record). a ∷ l) (arguments-back r ok q) (append-nil _ ∙ leading-back tag.Pair pair_of pair_record pair-back rs oks)
-begun-back tag.Unknown r rs q b ok oks order =
-    ap₂ (λ (a : Record) (l : List Record). a ∷ l) (unknown-back r ok q) (sym (leading-no-tag (λ (r : Record). r) tag.Unknown rs order))
-begun-back tag.Content r rs q b ok oks order = absurd (never (sym b))
-begun-back tag.Name r rs q b ok oks order = absurd (never (sym b))
-begun-back tag.Pair r rs q b ok oks order = absurd (never (sym b))
-begun-back tag.None r rs q b ok oks order = absurd (never (sym b))
+begun-back tag.Unknown r rs q b ok oks =
+    ap₂ (λ (a : Record) (l : List Record). a ∷ l) (unknown-back r ok q) (sym (leading-no-tag (λ (r : Record). r) rs))
+begun-back tag.Content r rs q b ok oks = absurd (never (sym b))
+begun-back tag.Name r rs q b ok oks = absurd (never (sym b))
+begun-back tag.Pair r rs q b ok oks = absurd (never (sym b))
 
 -- the entries that continue what stands before the records, and then the records of the sections
-continued : (previous : Tag) (rs : List Record) → in_order previous rs ≡ true → All Shaped rs → leading (entry_tag previous) (λ (r : Record). r) rs ++ records (sections rs) ≡ rs
+continued : (previous : Option Tag) (rs : List Record) → in_order previous rs ≡ true → All Shaped rs → leading (entry_after previous) (λ (r : Record). r) rs ++ records (sections rs) ≡ rs
 unfolding in_order sections records flat_map
 continued previous [] h oks = unfold leading in refl
 continued previous (r ∷ rs) h (ok, oks) =
-    let (here, rest) = (and-eq-true_iff (is_placed previous r.tag) (in_order r.tag rs)).0 h in
-    go (placed previous r.tag here) rest (continued r.tag rs rest oks)
+    let (here, rest) = (and-eq-true_iff (is_placed previous r.tag) (in_order (Some r.tag) rs)).0 h in
+    go (placed previous r.tag here) (continued (Some r.tag) rs rest oks)
   where
     go :
         Placed previous r.tag →
-        in_order r.tag rs ≡ true →
         leading (entry_tag r.tag) (λ (r : Record). r) rs ++ records (sections rs) ≡ rs →
-        leading (entry_tag previous) (λ (r : Record). r) (r ∷ rs) ++ records (begun r.tag r rs ++ sections rs) ≡ r ∷ rs
-    go (begins b) order more =
-        let none = leading-ends (entry_tag previous) (λ (r : Record). r) r rs (section-no-entry r.tag (entry_tag previous) b (entry-begins-none previous)) in
-        let own = begun-back r.tag r rs refl b ok oks order in
+        leading (entry_after previous) (λ (r : Record). r) (r ∷ rs) ++ records (begun r.tag r rs ++ sections rs) ≡ r ∷ rs
+    go (begins b) more =
+        let none = leading-ends (entry_after previous) (λ (r : Record). r) r rs (section-no-entry r.tag (entry_after previous) b (entry-begins-none previous)) in
+        let own = begun-back r.tag r rs refl b ok oks in
         rw (none, flat_map-append records_of (begun r.tag r rs) (sections rs), own) (ap (λ (l : List Record). r ∷ l) more)
-    go (entry b e fixed) order more =
-        let this = leading-more (entry_tag previous) (λ (r : Record). r) r rs (sym e) in
+    go (entry b e fixed) more =
+        let this = leading-more (entry_after previous) (λ (r : Record). r) r rs (sym e) in
         let none = begins-none r.tag b r rs in
         rw (this, none) (ap (λ (l : List Record). r ∷ l) (rw (fixed, ← e) at more))
 
-pub records-of-sections : (rs : List Record) → in_order tag.None rs ≡ true → All Shaped rs → records (sections rs) ≡ rs
+pub records-of-sections : (rs : List Record) → in_order None rs ≡ true → All Shaped rs → records (sections rs) ≡ rs
 records-of-sections rs h oks =
-    ap (λ (l : List Record). l ++ records (sections rs)) (sym (leading-no-tag (λ (r : Record). r) tag.None rs h)) ∙ continued tag.None rs h oks
+    ap (λ (l : List Record). l ++ records (sections rs)) (sym (leading-no-tag (λ (r : Record). r) rs)) ∙ continued None rs h oks

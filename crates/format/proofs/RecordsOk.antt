@@ -1,5 +1,6 @@
 -- What is asked of sections, record by record: sections are well formed just where their records are.
 -- Assumes nothing.
+use Rattle.std.specs.Prelude.{Option, Some}
 use Prim.Native.Nat.{ℕ, ◌%◌, ◌^◌, ◌≤◌, ◌<◌}
 use mathlib.Core.Bool.{Bool, true, false}
 use mathlib.Core.List.{List, [], ◌∷◌, ◌++◌, map, flat_map}
@@ -13,7 +14,7 @@ use Rattle.table.proofs.Tags.{tag-discrete}
 use Rattle.format.specs.Records.{Record, number_count, text_count, is_placed, in_order, content_record, name_record, pair_record, records_of, records, number, text, name_of, pair_of, leading, begun, sections}
 use Rattle.format.specs.Sections.{Section, plain, packed, names, arguments, unknown}
 use Rattle.format.specs.WellFormed.{Bytes, All, Text, NameOk, PairOk, WellFormed}
-use Rattle.format.proofs.Records.{Shaped}
+use Rattle.format.proofs.Records.{Shaped, some_same}
 use Rattle.format.proofs.RecordsByTag.{leading-more, leading-ends}
 use Rattle.format.proofs.RowsByTag.{all_append, all-at}
 use Rattle.format.proofs.TextsOk.{empty-text}
@@ -33,7 +34,6 @@ KindOk tag.Unknown r = (3 ≤ number 0 r) × (number 0 r ≤ 65535) × (length (
 KindOk tag.Content r = Unit {0}
 KindOk tag.Name r = Unit {0}
 KindOk tag.Pair r = Unit {0}
-KindOk tag.None r = Unit {0}
 
 -- of a record whose tag is t
 pub record RecordOk (t : Tag) (r : Record) : Type 0 where
@@ -58,12 +58,12 @@ text-ok k r ok e = all-at Text [] r.texts (rw e at ok.texts) empty-text k
 leading-ok :
     {A : Type 0} (P : A → Type 0) (t : Tag) (f : Record → A) →
     ((r : Record) → RecordOk t r → P (f r)) →
-    (rs : List Record) → All Good rs → All P (leading t f rs)
+    (rs : List Record) → All Good rs → All P (leading (Some t) f rs)
 leading-ok P t f each [] oks = unfold leading in tt
 leading-ok P t f each (r ∷ rs) (ok, oks) =
-    elim (tag-discrete r.tag t) [
-      | yes q ↦ rw (leading-more t f r rs q) (each r (subst (λ (t : Tag). RecordOk t r) q ok), leading-ok P t f each rs oks)
-      | no n ↦ rw (leading-ends t f r rs n) tt
+    elim (tag-discrete (Some r.tag) (Some t)) [
+      | yes q ↦ rw (leading-more (Some t) f r rs q) (each r (subst (λ (t : Tag). RecordOk t r) (some_same q) ok), leading-ok P t f each rs oks)
+      | no n ↦ rw (leading-ends (Some t) f r rs n) tt
     ]
 
 begun_ok : (t : Tag) (r : Record) (rs : List Record) → RecordOk t r → All Good rs → All WellFormed (begun t r rs)
@@ -78,7 +78,6 @@ begun_ok tag.Unknown r rs ok oks = let (low, high, whole) = ok.kind in ((low, hi
 begun_ok tag.Content r rs ok oks = tt
 begun_ok tag.Name r rs ok oks = tt
 begun_ok tag.Pair r rs ok oks = tt
-begun_ok tag.None r rs ok oks = tt
 
 pub sections-ok : (rs : List Record) → All Good rs → All WellFormed (sections rs)
 unfolding sections
@@ -124,25 +123,25 @@ records-ok (s ∷ ss) (ok, oks) = all_append Whole (records_of s) (records ss) (
 entries-order :
     {A : Type 0} (t : Tag) (own : A → Record) →
     ((x : A) → (own x).tag ≡ t) →
-    is_placed t t ≡ true →
+    is_placed (Some t) t ≡ true →
     (rs : List Record) →
-    ((previous : Tag) → in_order previous rs ≡ true) →
-    (xs : List A) (previous : Tag) →
+    ((previous : Option Tag) → in_order previous rs ≡ true) →
+    (xs : List A) (previous : Option Tag) →
     is_placed previous t ≡ true →
     in_order previous (map own xs ++ rs) ≡ true
 unfolding in_order
 entries-order t own tagged again rs after [] previous may = after previous
-entries-order t own tagged again rs after (x ∷ xs) previous may = rw (tagged x, may) (entries-order t own tagged again rs after xs t again)
+entries-order t own tagged again rs after (x ∷ xs) previous may = rw (tagged x, may) (entries-order t own tagged again rs after xs (Some t) again)
 
-section-order : (s : Section) (rs : List Record) → ((previous : Tag) → in_order previous rs ≡ true) → (previous : Tag) → in_order previous (records_of s ++ rs) ≡ true
+section-order : (s : Section) (rs : List Record) → ((previous : Option Tag) → in_order previous rs ≡ true) → (previous : Option Tag) → in_order previous (records_of s ++ rs) ≡ true
 unfolding records_of in_order same_tag
-section-order (plain header texts) rs after previous = entries-order tag.Content content_record (λ x. refl) refl rs after texts tag.PlainContents refl
-section-order (packed header stream count uncompressed) rs after previous = after tag.PackedContents
-section-order (names ns) rs after previous = entries-order tag.Name name_record (λ x. refl) refl rs after ns tag.Names refl
-section-order (arguments ps) rs after previous = entries-order tag.Pair pair_record (λ x. refl) refl rs after ps tag.Arguments refl
-section-order (unknown kind bytes) rs after previous = after tag.Unknown
+section-order (plain header texts) rs after previous = entries-order tag.Content content_record (λ x. refl) refl rs after texts (Some tag.PlainContents) refl
+section-order (packed header stream count uncompressed) rs after previous = after (Some tag.PackedContents)
+section-order (names ns) rs after previous = entries-order tag.Name name_record (λ x. refl) refl rs after ns (Some tag.Names) refl
+section-order (arguments ps) rs after previous = entries-order tag.Pair pair_record (λ x. refl) refl rs after ps (Some tag.Arguments) refl
+section-order (unknown kind bytes) rs after previous = after (Some tag.Unknown)
 
-pub records-order : (ss : List Section) (previous : Tag) → in_order previous (records ss) ≡ true
+pub records-order : (ss : List Section) (previous : Option Tag) → in_order previous (records ss) ≡ true
 unfolding records flat_map
 records-order [] previous = unfold in_order in refl
 records-order (s ∷ ss) previous = section-order s (records ss) (records-order ss) previous

@@ -1,6 +1,6 @@
 -- The statements of specs/RefusedCalls.antt, each proved under its name.
 -- Assumes nothing.
-use Rattle.std.specs.Prelude.{Err, Ok}
+use Rattle.std.specs.Prelude.{Err, Ok, Option}
 use Prim.Native.Nat.{ℕ}
 use mathlib.Core.List.{List, [], ◌∷◌}
 use mathlib.Core.Logic.{◌⊎◌, inl, inr}
@@ -76,7 +76,7 @@ module _ (payload edit : List ℕ) where
   texts [] = value tt
   texts (s ∷ spans) = step _ _ (text _ _ _) (λ _. texts spans)
 
-  rows : (previous : Tag) (rs : List Row) → Only Late (check_rows payload edit previous rs)
+  rows : (previous : Option Tag) (rs : List Row) → Only Late (check_rows payload edit previous rs)
   unfolding check_rows check_row
   rows previous [] = value tt
   rows previous (r ∷ rs) = step _ _ (test _ _ _ (inr (inr (inl refl)), refl) (texts _)) (λ _. rows (tag_of r.tag) rs)

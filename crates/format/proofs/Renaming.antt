@@ -1,7 +1,7 @@
 -- Renaming one file, as specs/RoundTrips.antt states it: a row that is set changes what the rows say at its index alone, and a name's row may be
 -- set to any text.
 -- Assumes nothing.
-use Rattle.std.specs.Prelude.{Ok}
+use Rattle.std.specs.Prelude.{Ok, Option, Some, None}
 use Prim.Native.Nat.{ℕ, zero, suc, ◌+◌}
 use mathlib.Core.Bool.{true, and-eq-true_iff}
 use mathlib.Core.List.{List, [], ◌∷◌, map}
@@ -17,8 +17,8 @@ use Rattle.table.proofs.Rows.{length-table_of, rows_of-table_of, length-store_ro
 use Rattle.table.specs.Tags.{tag_of}
 use Rattle.table.specs.declared.row.Row.{Row}
 use Rattle.table.specs.declared.tag.Tag.{Tag}
-use Rattle.table.specs.declared.tag.Tag.TheVariants.{Name, None}
-use Rattle.layout.proofs.Sides.{side_of-payload}
+use Rattle.table.specs.declared.tag.Tag.TheVariants.{Name}
+use Rattle.layout.proofs.BySide.{side_of-payload}
 use Rattle.layout.proofs.Checked.{after-good, check-good, then-good, check-passes, then-passes}
 use Rattle.format.specs.Output.{answer, output_after}
 use Rattle.format.specs.Promises.{Fits32}
@@ -43,7 +43,7 @@ map-set f [] i a = refl
 map-set f (x ∷ l) zero a = refl
 map-set {B = B} f (x ∷ l) (suc i) a = ap (λ (t : List B). f x ∷ t) (map-set f l i a)
 
-every_set : (P : Tag → Row → Type 0) (rows : List Row) (i : ℕ) (new : Row) → Every P rows → P (tag_of new.tag) new → Every P (set rows i new)
+every_set : (P : Option Tag → Row → Type 0) (rows : List Row) (i : ℕ) (new : Row) → Every P rows → P (tag_of new.tag) new → Every P (set rows i new)
 every_set P [] i new h k = tt
 every_set P (r ∷ rows) zero new h k = (k, h.1)
 every_set P (r ∷ rows) (suc i) new h k = (h.0, every_set P rows i new h.1 k)
@@ -51,9 +51,9 @@ every_set P (r ∷ rows) (suc i) new h k = (h.0, every_set P rows i new h.1 k)
 -- it may have any row's place that has its tag, where it obeys the rules wherever that one does
 module _ (p edit : List ℕ) (new : Row) (texts : check_texts p edit (texts_of new) ≡ Ok tt) where
   set-passes :
-      (rows : List Row) (i : ℕ) (previous : Tag) →
+      (rows : List Row) (i : ℕ) (previous : Option Tag) →
       tag_of (get_or rows i no_row).tag ≡ tag_of new.tag →
-      ((previous : Tag) → obeys p edit previous (get_or rows i no_row) ≡ true → obeys p edit previous new ≡ true) →
+      ((previous : Option Tag) → obeys p edit previous (get_or rows i no_row) ≡ true → obeys p edit previous new ≡ true) →
       check_rows p edit previous rows ≡ Ok tt →
       check_rows p edit previous (set rows i new) ≡ Ok tt
   unfolding check_rows check_row
@@ -82,9 +82,9 @@ renames p edit q rows i text bytes bytes' e f =
 
 name-obeys :
     (p edit : List ℕ) (old : Row) (text : Span) (size : ℕ) →
-    tag_of old.tag ≡ Name →
+    tag_of old.tag ≡ Some Name →
     inside p edit text ≡ true →
-    (previous : Tag) → obeys p edit previous old ≡ true → obeys p edit previous (name_row text size) ≡ true
+    (previous : Option Tag) → obeys p edit previous old ≡ true → obeys p edit previous (name_row text size) ≡ true
 unfolding obeys tag_rule spans_by all_inside all_zero
 name-obeys p edit old text size tag within previous h =
     let told = simp and-eq-true_iff at (rw tag at h) in

@@ -1,7 +1,7 @@
 -- The round trips of specs/RoundTrips.antt, each proved under its name. All rest on two facts: an accepted payload is the encoding of well-formed
 -- sections, with their rows (PayloadStands), and every such encoding is accepted, with these rows (PayloadRead).
 -- Assumes nothing.
-use Rattle.std.specs.Prelude.{Ok}
+use Rattle.std.specs.Prelude.{Ok, Option, None, Some}
 use Prim.Native.Nat.{ℕ, ◌+◌, ◌*◌, ◌/◌, ◌%◌, ◌≤◌}
 use mathlib.Core.Bool.{Bool, true, false, cond}
 use mathlib.Core.List.{List, [], ◌∷◌}
@@ -12,12 +12,12 @@ use lib.ListN.{length, take, drop, length-map}
 use lib.Seq.{take_at}
 use Rattle.layout.specs.Checked.{Checked, check}
 use Rattle.table.specs.Rows.{width, table_of, rows_of, spans_of}
-use Rattle.table.specs.Tags.{tag_of, begins_section}
+use Rattle.table.specs.Tags.{tag_of, opens_section}
 use Rattle.table.specs.declared.row.Row.{Row}
 use Rattle.table.specs.declared.tag.Tag.{Tag}
-use Rattle.table.specs.declared.tag.Tag.TheVariants.{PlainContents, PackedContents, Names, Arguments, Unknown, Content, Name, Pair, None}
+use Rattle.table.specs.declared.tag.Tag.TheVariants.{PlainContents, PackedContents, Names, Arguments, Unknown, Content, Name, Pair}
 use Rattle.layout.specs.Spans.{Span}
-use Rattle.layout.proofs.Sides.{side_of-payload}
+use Rattle.layout.proofs.BySide.{side_of-payload}
 use Rattle.layout.proofs.Checked.{check-good, then-good, then-passes, is-good}
 use Rattle.table.proofs.Rows.{length-table_of, rows_of-table_of, rows_of-table_of-append}
 use Rattle.format.specs.Encoding.{encode, within_limits}
@@ -87,12 +87,12 @@ module _ (p : List ℕ) where
       let (done, first, rest) = then-good _ _ _ e in
       ((side, within, rw (side_of-payload p [] side) at (text-ok _ s.start s.count first)), own-texts spans placed rest)
 
-  own-rows : (previous : Tag) (rows : List Row) → All (Placed p) rows → check_rows p [] previous rows ≡ Ok tt → All (λ (r : Row). All (OwnText p) (texts_of r)) rows
+  own-rows : (previous : Option Tag) (rows : List Row) → All (Placed p) rows → check_rows p [] previous rows ≡ Ok tt → All (λ (r : Row). All (OwnText p) (texts_of r)) rows
   unfolding check_rows check_row
   own-rows previous [] placed e = tt
   own-rows previous (r ∷ rows) (here, placed) e =
       let (done, first, rest) = then-good _ _ _ e in
-      (go (begins_section (tag_of r.tag)) (check-good _ _ _ _ first).1, own-rows (tag_of r.tag) rows placed rest)
+      (go (opens_section (tag_of r.tag)) (check-good _ _ _ _ first).1, own-rows (tag_of r.tag) rows placed rest)
     where
       go : (section : Bool) → check_texts p [] (cond section [] (spans_of r)) ≡ Ok tt → All (OwnText p) (cond section [] (spans_of r))
       go true f = tt
@@ -160,16 +160,16 @@ reads-back payload edit q rows bytes bytes' fit e =
       rows-say ss ok q (rows_from 8 ss) told.is refl [] ∙ said-by-sections payload edit rows told.checked,
     )
 
-numbers_fit : (t : Tag) (r : Row) → Fits32 r → Numbers t r
+numbers_fit : (t : Option Tag) (r : Row) → Fits32 r → Numbers t r
 unfolding numbers_by
-numbers_fit PlainContents r h = (h.a, tt)
-numbers_fit PackedContents r h = (h.a, (h.d, (h.e, tt)))
-numbers_fit Names r h = tt
-numbers_fit Arguments r h = tt
-numbers_fit Unknown r h = (h.a, tt)
-numbers_fit Content r h = tt
-numbers_fit Name r h = (h.c, tt)
-numbers_fit Pair r h = tt
+numbers_fit (Some PlainContents) r h = (h.a, tt)
+numbers_fit (Some PackedContents) r h = (h.a, (h.d, (h.e, tt)))
+numbers_fit (Some Names) r h = tt
+numbers_fit (Some Arguments) r h = tt
+numbers_fit (Some Unknown) r h = (h.a, tt)
+numbers_fit (Some Content) r h = tt
+numbers_fit (Some Name) r h = (h.c, tt)
+numbers_fit (Some Pair) r h = tt
 numbers_fit None r h = tt
 
 pub all_numbers_fit : (rows : List Row) → All Fits32 rows → All NumbersFit rows

@@ -1,5 +1,6 @@
 -- Rows by their tags: what is known of every row, and of the rows of one tag that stand at the start.
 -- Assumes nothing.
+use Rattle.std.specs.Prelude.{Option}
 use Prim.Native.Nat.{ℕ, zero, suc, ◌<◌}
 use mathlib.Core.List.{List, [], ◌∷◌, ◌++◌, map}
 use mathlib.Core.Path.{◌≡◌, refl, subst}
@@ -28,16 +29,16 @@ all-at P d (x ∷ l) h k zero = h.0
 all-at P d (x ∷ l) h k (suc i) = all-at P d l h.1 k i
 
 -- of every row holds what `Known` says of a row of its tag
-abbrev pub Every : (Tag → Row → Type 0) → List Row → Type 0
+abbrev pub Every : (Option Tag → Row → Type 0) → List Row → Type 0
 Every Known rows = All (λ (r : Row). Known (tag_of r.tag) r) rows
 
-pub every-both : (P Q : Tag → Row → Type 0) (rows : List Row) → Every P rows → Every Q rows → Every (λ t r. P t r × Q t r) rows
+pub every-both : (P Q : Option Tag → Row → Type 0) (rows : List Row) → Every P rows → Every Q rows → Every (λ t r. P t r × Q t r) rows
 every-both P Q [] h k = tt
 every-both P Q (r ∷ rows) h k = ((h.0, k.0), every-both P Q rows h.1 k.1)
 
 -- ---- the rows of a tag that stand at the start
 
-module _ {A : Type 0} (tag : Tag) (f : Row → A) (r : Row) (rows : List Row) where
+module _ {A : Type 0} (tag : Option Tag) (f : Row → A) (r : Row) (rows : List Row) where
   pub leading-more : tag_of r.tag ≡ tag → leading tag f (r ∷ rows) ≡ f r ∷ leading tag f rows
   unfolding leading
   leading-more q = rw (same_tag_lem (tag_of r.tag) tag q, leading)
@@ -46,7 +47,7 @@ module _ {A : Type 0} (tag : Tag) (f : Row → A) (r : Row) (rows : List Row) wh
   unfolding leading
   leading-ends n = rw (other_tag (tag_of r.tag) tag n, leading)
 
-module _ (Known : Tag → Row → Type 0) {A : Type 0} (tag : Tag) (f : Row → A) where
+module _ (Known : Option Tag → Row → Type 0) {A : Type 0} (tag : Option Tag) (f : Row → A) where
   pub leading-all :
       (P : A → Type 0) →
       ((r : Row) → Known tag r → P (f r)) →
@@ -57,7 +58,7 @@ module _ (Known : Tag → Row → Type 0) {A : Type 0} (tag : Tag) (f : Row → 
   leading-all P h (r ∷ rows) k =
       let rest = leading-all P h rows k.1 in
       elim (tag-discrete (tag_of r.tag) tag) [
-        | yes q ↦ rw leading-more (h r (subst (λ (t : Tag). Known t r) q k.0), rest)
+        | yes q ↦ rw leading-more (h r (subst (λ (t : Option Tag). Known t r) q k.0), rest)
         | no n ↦ rw leading-ends tt
       ]
 
@@ -71,6 +72,6 @@ module _ (Known : Tag → Row → Type 0) {A : Type 0} (tag : Tag) (f : Row → 
   leading-map g s h (r ∷ rows) k =
       let rest = leading-map g s h rows k.1 in
       elim (tag-discrete (tag_of r.tag) tag) [
-        | yes q ↦ simp leading-more (cc (h r q (subst (λ (t : Tag). Known t r) q k.0)))
+        | yes q ↦ simp leading-more (cc (h r q (subst (λ (t : Option Tag). Known t r) q k.0)))
         | no n ↦ simp leading-ends
       ]

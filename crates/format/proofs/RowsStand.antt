@@ -1,6 +1,6 @@
 -- The rows of sections that stand in a payload say just these sections, and obey the rules of rows, whatever the edit text.
 -- Assumes nothing.
-use Rattle.std.specs.Prelude.{Ok}
+use Rattle.std.specs.Prelude.{Ok, Option, Some}
 use Prim.Native.Nat.{ℕ, ◌+◌, ◌%◌, ◌≤◌}
 use mathlib.Core.Bool.{true, false}
 use mathlib.Core.List.{List, [], ◌∷◌, ◌++◌, map, flat_map, map-id}
@@ -15,7 +15,7 @@ use Rattle.wire.proofs.PaddingLaws.{le-aligned}
 use Rattle.layout.specs.Spans.{side_of}
 use Rattle.layout.specs.TextCheck.{check_text}
 use Rattle.table.specs.Rows.{spans_by}
-use Rattle.table.specs.Tags.{tag_of, entry_tag, begins_section}
+use Rattle.table.specs.Tags.{tag_of, entry_after, opens_section}
 use Rattle.table.specs.declared.row.Row.{Row}
 use Rattle.table.specs.declared.tag.Tag.{Tag}
 use Rattle.table.specs.declared.tag.Tag.TheVariants as tag
@@ -58,12 +58,12 @@ module _ (p : List ℕ) (at : ℕ) where
 -- no rows, or first a section's, which is no entry of a section before
 abbrev pub Opens : List Row → Type 0
 Opens [] = Unit {0}
-Opens (r ∷ rows) = begins_section (tag_of r.tag) ≡ true
+Opens (r ∷ rows) = opens_section (tag_of r.tag) ≡ true
 
-none-leads : {A : Type 0} (t : Tag) (f : Row → A) → begins_section t ≡ false → (rows : List Row) → Opens rows → leading t f rows ≡ []
+none-leads : {A : Type 0} (t : Option Tag) (f : Row → A) → opens_section t ≡ false → (rows : List Row) → Opens rows → leading t f rows ≡ []
 none-leads t f entry [] opens = unfold leading in refl
 none-leads t f entry (r ∷ rows) opens =
-    leading-ends t f r rows (λ q. let other : begins_section (tag_of r.tag) ≡ false = ap begins_section q ∙ entry in let z : ◌≡◌ {A = ℕ} 0 1 = cc in omega arith)
+    leading-ends t f r rows (λ q. let other : opens_section (tag_of r.tag) ≡ false = ap opens_section q ∙ entry in let z : ◌≡◌ {A = ℕ} 0 1 = cc in omega arith)
 
 rows-open : (at : ℕ) (ss : List Section) → Opens (rows_from at ss)
 unfolding rows_from rows_of_section
@@ -76,28 +76,28 @@ rows-open at (unknown kind bytes ∷ ss) = refl
 
 module _ (p edit : List ℕ) where
   -- the row of an item that stands has a tag that begins no section, and says what g makes of the item
-  abbrev pub Says : {A : Type 0} → Tag → (A → List ℕ) → (ℕ → A → Row) → (Row → A) → (A → A) → Type 0
+  abbrev pub Says : {A : Type 0} → Option Tag → (A → List ℕ) → (ℕ → A → Row) → (Row → A) → (A → A) → Type 0
   Says {A} t bytes row_at f g =
       (at : ℕ) (a : A) →
       Stands p at (bytes a) →
       (tag_of (row_at at a).tag ≡ t) × (f (row_at at a) ≡ g a) × ((rows : List Row) → begun p edit (tag_of (row_at at a).tag) (row_at at a) rows ≡ [])
 
-  content-says : Says tag.Content content_entry content_placed (content_of p edit) (λ text. text)
+  content-says : Says (Some tag.Content) content_entry content_placed (content_of p edit) (λ text. text)
   unfolding begun side_of
   content-says at text s = (refl, stands-part p (at + 12) text (content-text p at text s), λ rows. refl)
 
-  pub name-says : (size : Name → ℕ) → Says tag.Name name_entry (sized_placed size) (name_of p edit) (λ (x : Name). record { text = x.text; content_size = size x })
+  pub name-says : (size : Name → ℕ) → Says (Some tag.Name) name_entry (sized_placed size) (name_of p edit) (λ (x : Name). record { text = x.text; content_size = size x })
   unfolding begun side_of
   name-says size at x s = (refl, rw (stands-part p (at + 16) x.text (name-text p at x s)), λ rows. refl)
 
-  pair-says : Says tag.Pair pair_entry pair_placed (pair_of p edit) (λ x. x)
+  pair-says : Says (Some tag.Pair) pair_entry pair_placed (pair_of p edit) (λ x. x)
   unfolding begun side_of
   pair-says at x s =
       let (name, value) = pair-texts p at x s in
       (refl, rw (stands-part p at x.name name, stands-part p (at + wire_size (length x.name)) x.value value), λ rows. refl)
 
   -- rows of items before those of sections say the items, and begin no section
-  module _ {A : Type 0} (t : Tag) (entry : begins_section t ≡ false) (bytes : A → List ℕ) (row_at : ℕ → A → Row) (f : Row → A) (g : A → A) (item : Says t bytes row_at f g) (rest : List Row) (opens : Opens rest) where
+  module _ {A : Type 0} (t : Option Tag) (entry : opens_section t ≡ false) (bytes : A → List ℕ) (row_at : ℕ → A → Row) (f : Row → A) (g : A → A) (item : Says t bytes row_at f g) (rest : List Row) (opens : Opens rest) where
     pub run-says :
         (items : List A) (at : ℕ) →
         Stands p at (flat_map bytes items) →
@@ -118,17 +118,17 @@ module _ (p edit : List ℕ) where
     unfolding rows_of_section sections_of begun stored_bytes side_of
     section-says (plain header texts) s =
         let run = section-stored (plain header texts) p at s in
-        let (leads, others) = run-says tag.Content refl content_entry content_placed (content_of p edit) _ content-says rest opens texts (at + 28) run in
+        let (leads, others) = run-says (Some tag.Content) refl content_entry content_placed (content_of p edit) _ content-says rest opens texts (at + 28) run in
         rw (leads, map-id, others)
     section-says (packed header stream count uncompressed) s =
         rw (stands-part p (at + 28) stream (section-stored (packed header stream count uncompressed) p at s))
     section-says (names ns) s =
         let run = section-stored (names ns) p at s in
-        let (leads, others) = run-says tag.Name refl name_entry name_placed (name_of p edit) _ (name-says (λ n. n.content_size)) rest opens ns (at + 18) run in
+        let (leads, others) = run-says (Some tag.Name) refl name_entry name_placed (name_of p edit) _ (name-says (λ n. n.content_size)) rest opens ns (at + 18) run in
         rw (leads, map-id, others)
     section-says (arguments xs) s =
         let run = section-stored (arguments xs) p at s in
-        let (leads, others) = run-says tag.Pair refl pair_entry pair_placed (pair_of p edit) _ pair-says rest opens xs (at + 20) run in
+        let (leads, others) = run-says (Some tag.Pair) refl pair_entry pair_placed (pair_of p edit) _ pair-says rest opens xs (at + 20) run in
         rw (leads, map-id, others)
     section-says (unknown kind bytes) s = rw (stands-part p (at + 8) bytes (section-stored (unknown kind bytes) p at s))
 
@@ -143,11 +143,11 @@ module _ (p edit : List ℕ) where
   -- ---- that they obey the rules
 
   -- a row obeys the rules after a row of the previous tag, and its texts pass
-  abbrev Passes : Tag → Row → Type 0
+  abbrev Passes : Option Tag → Row → Type 0
   Passes previous r = (obeys p edit previous r ≡ true) × (check_texts p edit (texts_of r) ≡ Ok tt)
 
   pub passes-first :
-      (previous : Tag) (r : Row) (rows : List Row) →
+      (previous : Option Tag) (r : Row) (rows : List Row) →
       Passes previous r →
       check_rows p edit (tag_of r.tag) rows ≡ Ok tt →
       check_rows p edit previous (r ∷ rows) ≡ Ok tt
@@ -155,10 +155,10 @@ module _ (p edit : List ℕ) where
   passes-first previous r rows (rule, texts) rest = then-passes _ _ (check-passes _ _ _ rule texts) rest
 
   -- the row of an item that stands is of a tag, and passes after a row that entries of this tag may follow
-  abbrev pub PassesAfter : {A : Type 0} → Tag → (A → List ℕ) → (ℕ → A → Row) → (A → Type 0) → Type 0
+  abbrev pub PassesAfter : {A : Type 0} → Option Tag → (A → List ℕ) → (ℕ → A → Row) → (A → Type 0) → Type 0
   PassesAfter {A} own bytes row_at Good =
-      (previous : Tag) (at : ℕ) (a : A) →
-      entry_tag previous ≡ own →
+      (previous : Option Tag) (at : ℕ) (a : A) →
+      entry_after previous ≡ own →
       Good a →
       at + length (bytes a) ≤ length p →
       Stands p at (bytes a) →
@@ -172,21 +172,21 @@ module _ (p edit : List ℕ) where
     text-passes : Text text → check_text p at (length text) ≡ Ok tt
     text-passes ok = ok-text p at (length text) text (stands-part p at text stand) ok
 
-  content-passes : PassesAfter tag.Content content_entry content_placed Text
+  content-passes : PassesAfter (Some tag.Content) content_entry content_placed Text
   unfolding obeys tag_rule spans_by all_inside check_texts side_of all_zero
   content-passes previous at text after ok room s =
       let t = content-text p at text s in
       let within = text-inside (at + 12) text t (omega (arith, length-content_entry text, le-aligned (12 + wire_size (length text)))) in
-      ((rw (same_tag_lem (entry_tag previous) tag.Content after, within), then-passes _ _ (text-passes (at + 12) text t ok) refl), refl)
+      ((rw (same_tag_lem (entry_after previous) (Some tag.Content) after, within), then-passes _ _ (text-passes (at + 12) text t ok) refl), refl)
 
-  pub name-passes : (size : Name → ℕ) → PassesAfter tag.Name name_entry (sized_placed size) NameOk
+  pub name-passes : (size : Name → ℕ) → PassesAfter (Some tag.Name) name_entry (sized_placed size) NameOk
   unfolding obeys tag_rule spans_by all_inside check_texts side_of all_zero
   name-passes size previous at x after ok room s =
       let t = name-text p at x s in
       let within = text-inside (at + 16) x.text t (omega (arith, length-name_entry x, le-aligned (16 + wire_size (length x.text)))) in
-      ((rw (same_tag_lem (entry_tag previous) tag.Name after, within), then-passes _ _ (text-passes (at + 16) x.text t ok.text) refl), refl)
+      ((rw (same_tag_lem (entry_after previous) (Some tag.Name) after, within), then-passes _ _ (text-passes (at + 16) x.text t ok.text) refl), refl)
 
-  pair-passes : PassesAfter tag.Pair pair_entry pair_placed PairOk
+  pair-passes : PassesAfter (Some tag.Pair) pair_entry pair_placed PairOk
   unfolding obeys tag_rule spans_by all_inside check_texts side_of all_zero
   pair-passes previous at x after ok room s =
       let (name, value) = pair-texts p at x s in
@@ -195,14 +195,14 @@ module _ (p edit : List ℕ) where
       let value-within = text-inside next x.value value (omega (arith, length-pair_entry x)) in
       let texts =
       then-passes _ _ (text-passes at x.name name ok.name) (then-passes _ _ (text-passes next x.value value ok.value) refl) in
-      ((rw (same_tag_lem (entry_tag previous) tag.Pair after, name-within, value-within), texts), refl)
+      ((rw (same_tag_lem (entry_after previous) (Some tag.Pair) after, name-within, value-within), texts), refl)
 
-  module _ {A : Type 0} (own : Tag) (fixed : entry_tag own ≡ own) (bytes : A → List ℕ) (row_at : ℕ → A → Row) (Good : A → Type 0) (item : PassesAfter own bytes row_at Good) where
+  module _ {A : Type 0} (own : Option Tag) (fixed : entry_after own ≡ own) (bytes : A → List ℕ) (row_at : ℕ → A → Row) (Good : A → Type 0) (item : PassesAfter own bytes row_at Good) where
     pub run-passes :
         (after : List Row) →
-        ((previous : Tag) → check_rows p edit previous after ≡ Ok tt) →
-        (items : List A) (previous : Tag) (at : ℕ) →
-        entry_tag previous ≡ own →
+        ((previous : Option Tag) → check_rows p edit previous after ≡ Ok tt) →
+        (items : List A) (previous : Option Tag) (at : ℕ) →
+        entry_after previous ≡ own →
         All Good items →
         at + length (flat_map bytes items) ≤ length p →
         Stands p at (flat_map bytes items) →
@@ -213,7 +213,7 @@ module _ (p edit : List ℕ) where
         let sizes = length-append (bytes a) (flat_map bytes items) in
         let (here, tagged) = item previous at a f ok (omega arith) (stands-first p at (bytes a) (flat_map bytes items) s) in
         passes-first previous (row_at at a) _ here
-        (run-passes after passes items (tag_of (row_at at a).tag) (at + length (bytes a)) (ap entry_tag tagged ∙ fixed) oks (omega arith) (stands-next p at (bytes a) (flat_map bytes items) _ refl s))
+        (run-passes after passes items (tag_of (row_at at a).tag) (at + length (bytes a)) (ap entry_after tagged ∙ fixed) oks (omega arith) (stands-next p at (bytes a) (flat_map bytes items) _ refl s))
 
   -- the stored bytes end before the section does
   pub stored-within : (s : Section) (at : ℕ) → at + length (encode_section s) ≤ length p → at + start s + length (stored_bytes s) ≤ length p
@@ -224,35 +224,35 @@ module _ (p edit : List ℕ) where
       WellFormed s →
       at + length (encode_section s) ≤ length p →
       Stands p at (encode_section s) →
-      ((previous : Tag) → check_rows p edit previous after ≡ Ok tt) →
-      (previous : Tag) → check_rows p edit previous (rows_of_section at s ++ after) ≡ Ok tt
+      ((previous : Option Tag) → check_rows p edit previous after ≡ Ok tt) →
+      (previous : Option Tag) → check_rows p edit previous (rows_of_section at s ++ after) ≡ Ok tt
   unfolding rows_of_section stored_bytes obeys tag_rule spans_by all_inside check_texts side_of all_zero
   section-passes (plain header texts) at after ok room s passes previous =
       let within = stored-within (plain header texts) at room in
       passes-first previous _ _ (refl, refl)
-      (run-passes tag.Content refl content_entry content_placed Text content-passes after passes texts tag.PlainContents (at + 28) refl ok.1 within (section-stored (plain header texts) p at s))
+      (run-passes (Some tag.Content) refl content_entry content_placed Text content-passes after passes texts (Some tag.PlainContents) (at + 28) refl ok.1 within (section-stored (plain header texts) p at s))
   section-passes (packed header stream count uncompressed) at after ok room s passes previous =
       let within = stored-within (packed header stream count uncompressed) at room in
-      passes-first previous _ _ (rw (le-leb (at + 28 + length stream) (length p) within), refl) (passes tag.PackedContents)
+      passes-first previous _ _ (rw (le-leb (at + 28 + length stream) (length p) within), refl) (passes (Some tag.PackedContents))
   section-passes (names ns) at after ok room s passes previous =
       let within = stored-within (names ns) at room in
       passes-first previous _ _ (refl, refl)
-      (run-passes tag.Name refl name_entry name_placed NameOk (name-passes (λ n. n.content_size)) after passes ns tag.Names (at + 18) refl ok within (section-stored (names ns) p at s))
+      (run-passes (Some tag.Name) refl name_entry name_placed NameOk (name-passes (λ n. n.content_size)) after passes ns (Some tag.Names) (at + 18) refl ok within (section-stored (names ns) p at s))
   section-passes (arguments xs) at after ok room s passes previous =
       let within = stored-within (arguments xs) at room in
       passes-first previous _ _ (refl, refl)
-      (run-passes tag.Pair refl pair_entry pair_placed PairOk pair-passes after passes xs tag.Arguments (at + 20) refl ok within (section-stored (arguments xs) p at s))
+      (run-passes (Some tag.Pair) refl pair_entry pair_placed PairOk pair-passes after passes xs (Some tag.Arguments) (at + 20) refl ok within (section-stored (arguments xs) p at s))
   section-passes (unknown kind bytes) at after ok room s passes previous =
       let within = stored-within (unknown kind bytes) at room in
       passes-first previous _ _
-      (rw (le-leb 3 kind ok.0, le-leb kind 65535 ok.1, eq-eqb (length bytes % 4) 0 ok.3, le-leb (at + 8 + length bytes) (length p) within), refl) (passes tag.Unknown)
+      (rw (le-leb 3 kind ok.0, le-leb kind 65535 ok.1, eq-eqb (length bytes % 4) 0 ok.3, le-leb (at + 8 + length bytes) (length p) within), refl) (passes (Some tag.Unknown))
 
   pub rows_pass :
       (ss : List Section) (at : ℕ) →
       All WellFormed ss →
       at + length (flat_map encode_section ss) ≤ length p →
       Stands p at (flat_map encode_section ss) →
-      (previous : Tag) → check_rows p edit previous (rows_from at ss) ≡ Ok tt
+      (previous : Option Tag) → check_rows p edit previous (rows_from at ss) ≡ Ok tt
   unfolding flat_map rows_from
   rows_pass [] at ok room s previous = unfold check_rows in refl
   rows_pass (t ∷ ss) at (ok, oks) room s previous =

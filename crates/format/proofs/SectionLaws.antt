@@ -7,15 +7,17 @@ use mathlib.Core.List.{List, [], ◌∷◌, ◌++◌}
 use mathlib.Core.Path.{◌≡◌, refl}
 use native.Mathlib.Omega.{arith}
 use borrow.Author.Tests.{leb-true, eqb-true, le-leb, eq-eqb}
+use lib.Dec.{eqb, leb}
 use lib.ListN.{length}
 use Rattle.wire.specs.Number.{u16_at, u32_at}
-use Rattle.layout.specs.Checked.{Checked, then}
+use Rattle.layout.specs.Checked.{Checked, check, then}
+use Rattle.layout.specs.declared.refusal.Refusal.TheVariants.{Short, Flag}
 use Rattle.format.specs.Encoding.{limit}
 use Rattle.layout.specs.Kinds.{checked_compression}
 use Rattle.layout.specs.declared.compression.SourceCompression.TheVariants.{None}
 use Rattle.table.specs.Rows.{plain_row, names_row, arguments_row}
 use Rattle.table.specs.declared.row.Row.{Row}
-use Rattle.format.specs.Parse.{entries, pairs, name_row_at, content_row_at, parse_arguments, parse_names, parse_stored, parse_contents, parse_section, kind_at, parse_sections, parse}
+use Rattle.format.specs.Parse.{framed, entries, pairs, name_row_at, content_row_at, parse_arguments, parse_names, parse_stored, parse_contents, parse_section, kind_at, parse_sections, parse}
 use Rattle.format.proofs.FrameLaws.{Frame, frame-good, Framed, framed-good, framed-found}
 use Rattle.layout.proofs.Checked.{check-good, then-good, check-passes, then-passes}
 
@@ -34,6 +36,29 @@ headed head held rs e =
       found = a.1;
       all = cc;
     }
+
+-- a section whose flags stand after its header, as those of names and of arguments do, with so many bytes of headers and of what it stores
+module _ (p : List ℕ) (at size headers bytes : ℕ) (head : Row) (held : Checked (List Row)) where
+  abbrev flagged : Checked (List Row)
+  flagged =
+      check (leb headers size) Short (λ _.
+      check (eqb (u32_at p (at + 8)) 0) Flag (λ _.
+      then (framed p at size headers bytes) (λ _.
+      then held (λ rows.
+      Ok (head ∷ rows)))))
+
+  flagged-good : (rs : List Row) → flagged ≡ Ok rs → Framed p at size headers bytes × Headed head held rs × (u32_at p (at + 8) ≡ 0)
+  flagged-good rs e =
+      let long = check-good _ _ _ _ e in
+      let no-flags = check-good _ _ _ _ long.1 in
+      let (done, frame, found) = then-good _ _ _ no-flags.1 in
+      (framed-good p at size headers bytes frame, headed head held rs found, eqb-true _ _ no-flags.0)
+
+  flagged-found : {rest : List Row} → Framed p at size headers bytes → u32_at p (at + 8) ≡ 0 → held ≡ Ok rest → flagged ≡ Ok (head ∷ rest)
+  flagged-found frame flags found =
+      check-passes _ _ _ (le-leb headers size (omega (arith, frame.within)))
+      (check-passes _ _ _ (eq-eqb (u32_at p (at + 8)) 0 flags)
+      (then-passes _ _ (framed-found p at size headers bytes frame) (then-passes _ _ found refl)))
 
 module _ (p : List ℕ) (at : ℕ) where
   -- ---- contents
@@ -95,11 +120,7 @@ module _ (p : List ℕ) (at : ℕ) where
         parse_names p at size ≡ Ok rs →
         Framed p at size 18 (u16_at p (at + 16)) × Headed (names_row) name_entries rs × (u32_at p (at + 8) ≡ 0)
     unfolding parse_names
-    names-good rs e =
-        let long = check-good _ _ _ _ e in
-        let no-flags = check-good _ _ _ _ long.1 in
-        let (done, frame, found) = then-good _ _ _ no-flags.1 in
-        (framed-good p at size 18 (u16_at p (at + 16)) frame, headed (names_row) name_entries rs found, eqb-true _ _ no-flags.0)
+    names-good = flagged-good p at size 18 (u16_at p (at + 16)) names_row name_entries
 
     pub names-found :
         {rest : List Row} →
@@ -108,10 +129,7 @@ module _ (p : List ℕ) (at : ℕ) where
         name_entries ≡ Ok rest →
         parse_names p at size ≡ Ok (names_row ∷ rest)
     unfolding parse_names
-    names-found frame flags found =
-        check-passes _ _ _ (le-leb 18 size (omega (arith, frame.within)))
-        (check-passes _ _ _ (eq-eqb (u32_at p (at + 8)) 0 flags)
-        (then-passes _ _ (framed-found p at size 18 _ frame) (then-passes _ _ found refl)))
+    names-found = flagged-found p at size 18 (u16_at p (at + 16)) names_row name_entries
 
   -- ---- arguments
 
@@ -124,11 +142,7 @@ module _ (p : List ℕ) (at : ℕ) where
         parse_arguments p at size ≡ Ok rs →
         Framed p at size 20 (u32_at p (at + 12)) × Headed (arguments_row) argument_pairs rs × (u32_at p (at + 8) ≡ 0)
     unfolding parse_arguments
-    arguments-good rs e =
-        let long = check-good _ _ _ _ e in
-        let no-flags = check-good _ _ _ _ long.1 in
-        let (done, frame, found) = then-good _ _ _ no-flags.1 in
-        (framed-good p at size 20 (u32_at p (at + 12)) frame, headed (arguments_row) argument_pairs rs found, eqb-true _ _ no-flags.0)
+    arguments-good = flagged-good p at size 20 (u32_at p (at + 12)) arguments_row argument_pairs
 
     pub arguments-found :
         {rest : List Row} →
@@ -137,10 +151,7 @@ module _ (p : List ℕ) (at : ℕ) where
         argument_pairs ≡ Ok rest →
         parse_arguments p at size ≡ Ok (arguments_row ∷ rest)
     unfolding parse_arguments
-    arguments-found frame flags found =
-        check-passes _ _ _ (le-leb 20 size (omega (arith, frame.within)))
-        (check-passes _ _ _ (eq-eqb (u32_at p (at + 8)) 0 flags)
-        (then-passes _ _ (framed-found p at size 20 _ frame) (then-passes _ _ found refl)))
+    arguments-found = flagged-found p at size 20 (u32_at p (at + 12)) arguments_row argument_pairs
 
 -- ---- sections
 

@@ -1,19 +1,13 @@
--- A loop that stores bytes piece by piece, whichever job it is: what is left to store after a turn. And what is taken of sections, a section a turn.
+-- A loop that stores bytes piece by piece, whichever job it is: what is left to store after a turn.
 -- Assumes nothing.
-use Prim.Native.Nat.{ℕ, ◌+◌, ◌-◌, ◌≤◌, ◌<◌}
-use mathlib.Core.List.{List, [], ◌++◌, flat_map}
+use Prim.Native.Nat.{ℕ, ◌+◌, ◌≤◌}
+use mathlib.Core.List.{List, [], ◌∷◌, ◌++◌, flat_map}
 use mathlib.Core.Path.{◌≡◌, sym, ap, ◌∙◌}
 use native.Mathlib.Nat.{add-zero}
 use native.Mathlib.Omega.{arith}
 use lib.ListN.{length, length-append}
 use lib.Seq.{sets}
-use Rattle.wire.specs.Number.{u32_at}
 use Rattle.wire.proofs.Sets.{sets-joined}
-use Rattle.layout.specs.Kinds.{known}
-use Rattle.layout.specs.declared.section_type.SourceInfoSectionType.{SourceInfoSectionType}
-use Rattle.layout.specs.declared.section_type.SourceInfoSectionType.TheVariants.{SourceContents, SourceNames, Arguments, Unknown}
-use Rattle.format.specs.Walk.{places_from}
-use Rattle.format.proofs.Walking.{places-next, places-end}
 
 -- ---- bytes that are stored piece by piece
 
@@ -48,34 +42,30 @@ module _ {before : List ℕ} {start : ℕ} {all : List ℕ} where
       (to ≡ start + length all) × (output ≡ sets before start all)
   left-none {output = output} {to = to} none left = (sym (add-zero to) ∙ rw none at left.ends, rw none at left.gives)
 
--- ---- what is taken of sections
+-- ---- bytes that are stored of items, an item a turn
 
-module _ {A : Type 0} (p : List ℕ) (taken_at : ℕ → List A) where
-  -- what is taken of so many sections from a place on
-  abbrev pub taken_from : ℕ → ℕ → List A
-  taken_from count at = flat_map taken_at (places_from p count at)
+-- the bytes of `items` are left to store, of those of `all`
+pub record LeftOf {A : Type 0} (text : A → List ℕ) (before : List ℕ) (start : ℕ) (all : List A) (output : List ℕ) (to : ℕ) (items : List A) : Type 0 where
+  pub left : Left before start (flat_map text all) output to (flat_map text items)
 
-  pub taken_next : (count done : ℕ) → done < count → (at : ℕ) → taken_from (count - done) at ≡ taken_at at ++ taken_from (count - (done + 1)) (at + u32_at p at)
-  unfolding flat_map
-  taken_next count done more at = rw (places-next p count done more at)
+module _ {A : Type 0} {text : A → List ℕ} {before : List ℕ} {start : ℕ} {all : List A} where
+  pub none-stored : {items : List A} → items ≡ all → LeftOf text before start all before start items
+  none-stored e = record { left = left-all (ap (flat_map text) e) }
 
-  pub taken-end : (count done : ℕ) → count ≤ done → (at : ℕ) → taken_from (count - done) at ≡ []
-  unfolding flat_map
-  taken-end count done ended at = rw (places-end p count done ended at)
+  module _ {output : List ℕ} {to : ℕ} {items : List A} (so : LeftOf text before start all output to items) where
+    -- the next of them
+    module _ {item : A} {others : List A} (next : items ≡ item ∷ others) where
+      split : flat_map text items ≡ text item ++ flat_map text others
+      unfolding flat_map
+      split = ap (flat_map text) next
 
-  -- how many they are
-  pub count_next :
-      (count done : ℕ) → done < count → (at : ℕ) →
-      length (taken_from (count - done) at) ≡ length (taken_at at) + length (taken_from (count - (done + 1)) (at + u32_at p at))
-  count_next count done more at =
-      ap length (taken_next count done more at) ∙ length-append (taken_at at) (taken_from (count - (done + 1)) (at + u32_at p at))
+      -- ends where all of them do, or before
+      pub item-within : to + length (text item) ≤ start + length (flat_map text all)
+      item-within = omega (arith, so.left.ends, ap length split, length-append (text item) (flat_map text others))
 
-  pub count-end : (count done : ℕ) → count ≤ done → (at : ℕ) → length (taken_from (count - done) at) ≡ 0
-  count-end count done ended at = ap length (taken-end count done ended at)
+      pub item-stored : {after : List ℕ} {end : ℕ} → end ≡ to + length (text item) → after ≡ sets output to (text item) → LeftOf text before start all after end others
+      item-stored there stored = record { left = left-next (text item) (flat_map text others) split so.left there stored }
 
--- of a section at most one is taken, where a kind has one only if it is known
-pub known-most : (kind : SourceInfoSectionType) → known kind ≤ 1
-known-most SourceContents = omega arith
-known-most SourceNames = omega arith
-known-most Arguments = omega arith
-known-most (Unknown kind) = omega arith
+    pub all-stored : items ≡ [] → (to ≡ start + length (flat_map text all)) × (output ≡ sets before start (flat_map text all))
+    unfolding flat_map
+    all-stored none = left-none (ap (flat_map text) none) so.left

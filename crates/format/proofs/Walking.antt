@@ -1,7 +1,7 @@
 -- The walk goes forward, step by step: what the loops and branches of a second pass need of it.
 -- Assumes nothing.
 use Prim.Native.Nat.{ℕ, zero, suc, ◌+◌, ◌-◌, ◌≤◌, ◌<◌}
-use mathlib.Core.List.{List, [], ◌∷◌}
+use mathlib.Core.List.{List}
 use mathlib.Core.Path.{◌≡◌, refl, ap}
 use native.Mathlib.Omega.{arith}
 use lib.ListN.{length}
@@ -53,14 +53,6 @@ module _ (p : List ℕ) where
   pairs-end-step count done more at = rw (one_fewer count done more)
 
   -- ---- sections
-
-  pub places-next : (count done : ℕ) → done < count → (at : ℕ) → places_from p (count - done) at ≡ at ∷ places_from p (count - (done + 1)) (at + u32_at p at)
-  unfolding places_from
-  places-next count done more at = rw (one_fewer count done more)
-
-  pub places-end : (count done : ℕ) → count ≤ done → (at : ℕ) → places_from p (count - done) at ≡ []
-  unfolding places_from
-  places-end count done ended at = rw (none_left count done ended)
 
   pub length-places : (count at : ℕ) → length (places_from p count at) ≡ count
   unfolding places_from

@@ -1,6 +1,6 @@
 -- The public copy: the rows of an accepted payload with all that is not public taken out, written.
 use Rattle.layout.specs.Refusals.{Answer}
-use Rattle.std.specs.Prelude.{ℕ}
+use Rattle.std.specs.Prelude.{ℕ, Option, Some, None}
 use mathlib.Core.List.{List, [], ◌∷◌, flat_map}
 use Rattle.layout.specs.Checked.{Checked, then}
 use Rattle.layout.specs.Spans.{Span, span}
@@ -8,7 +8,7 @@ use Rattle.table.specs.Rows.{plain_row, packed_row, content_row, name_row, text_
 use Rattle.table.specs.Tags.{tag_of}
 use Rattle.table.specs.declared.row.Row.{Row}
 use Rattle.table.specs.declared.tag.Tag.{Tag}
-use Rattle.table.specs.declared.tag.Tag.TheVariants.{PlainContents, PackedContents, Names, Arguments, Unknown, Content, Name, Pair, None}
+use Rattle.table.specs.declared.tag.Tag.TheVariants.{PlainContents, PackedContents, Names, Arguments, Unknown, Content, Name, Pair}
 use Rattle.format.specs.Parse.{parse}
 use Rattle.format.specs.Write.{written}
 use Rattle.format.specs.Output.{answer, output_after}
@@ -23,15 +23,15 @@ public_count count = count
 
 -- What becomes of a row of a tag. The header field becomes 0; a packed section keeps its count and stores nothing; an unknown
 -- section goes; a content becomes empty, and a name's content size that of an empty content, 1.
-unfoldable pub public_row : Tag → Row → List Row
-public_row PlainContents r = plain_row 0 ∷ []
-public_row PackedContents r = packed_row 0 nothing (public_count r.d) 0 ∷ []
-public_row Names r = r ∷ []
-public_row Arguments r = r ∷ []
-public_row Unknown r = []
-public_row Content r = content_row nothing ∷ []
-public_row Name r = name_row (text_span r) 1 ∷ []
-public_row Pair r = r ∷ []
+unfoldable pub public_row : Option Tag → Row → List Row
+public_row (Some PlainContents) r = plain_row 0 ∷ []
+public_row (Some PackedContents) r = packed_row 0 nothing (public_count r.d) 0 ∷ []
+public_row (Some Names) r = r ∷ []
+public_row (Some Arguments) r = r ∷ []
+public_row (Some Unknown) r = []
+public_row (Some Content) r = content_row nothing ∷ []
+public_row (Some Name) r = name_row (text_span r) 1 ∷ []
+public_row (Some Pair) r = r ∷ []
 public_row None r = []
 
 unfoldable pub public_rows : List Row → List Row

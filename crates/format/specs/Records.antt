@@ -1,6 +1,6 @@
 -- What sections say, record by record: a section's own record, then one for each of its entries. A row holds a record in its way, and so does a
 -- line of a sheet.
-use Rattle.std.specs.Prelude.{ℕ, Bool, true, false, not, ◌&&◌, ◌||◌, get_or}
+use Rattle.std.specs.Prelude.{ℕ, Bool, true, false, ◌&&◌, ◌||◌, get_or, Option, Some}
 use mathlib.Core.List.{List, [], ◌∷◌, ◌++◌, map, flat_map}
 use Rattle.table.specs.Tags.{same_tag, begins_section}
 use Rattle.table.specs.declared.tag.Tag.{Tag}
@@ -28,7 +28,6 @@ number_count tag.Unknown = 1
 number_count tag.Content = 0
 number_count tag.Name = 1
 number_count tag.Pair = 0
-number_count tag.None = 0
 
 -- how many texts
 abbrev pub text_count : Tag → ℕ
@@ -40,17 +39,16 @@ text_count tag.Unknown = 1
 text_count tag.Content = 1
 text_count tag.Name = 1
 text_count tag.Pair = 2
-text_count tag.None = 0
 
 -- whether a record of a tag may stand after one of the previous tag, by the rule of rows: a section's own may follow any, an entry's its section's or
--- one of its own tag. None is the tag of no record
-abbrev pub is_placed : Tag → Tag → Bool
-is_placed previous own = not (same_tag own tag.None) && (begins_section own || follows own previous)
+-- one of its own tag. The previous is None before the first
+abbrev pub is_placed : Option Tag → Tag → Bool
+is_placed previous own = begins_section own || follows own previous
 
 -- whether records stand so, the first after one of the previous tag
-unfoldable pub in_order : Tag → List Record → Bool
+unfoldable pub in_order : Option Tag → List Record → Bool
 in_order previous [] = true
-in_order previous (r ∷ rs) = is_placed previous r.tag && in_order r.tag rs
+in_order previous (r ∷ rs) = is_placed previous r.tag && in_order (Some r.tag) rs
 
 -- ---- the records of sections
 
@@ -88,22 +86,21 @@ name_of r = record { text = text 0 r; content_size = number 0 r }
 abbrev pub pair_of : Record → Pair
 pair_of r = record { name = text 0 r; value = text 1 r }
 
--- the records of a tag that stand at the start, each as f has it
-unfoldable pub leading : {A : Type 0} → Tag → (Record → A) → List Record → List A
+-- the records of a tag that stand at the start, each as f has it; of no tag there are none
+unfoldable pub leading : {A : Type 0} → Option Tag → (Record → A) → List Record → List A
 leading tag f [] = []
-leading tag f (r ∷ rs) = elim (same_tag r.tag tag) [ true ↦ f r ∷ leading tag f rs | false ↦ [] ]
+leading tag f (r ∷ rs) = elim (same_tag (Some r.tag) tag) [ true ↦ f r ∷ leading tag f rs | false ↦ [] ]
 
 -- the section that a record of a tag begins, with the entries that follow it; any other record begins none
 unfoldable pub begun : Tag → Record → List Record → List Section
-begun tag.PlainContents r rs = plain (number 0 r) (leading tag.Content (text 0) rs) ∷ []
+begun tag.PlainContents r rs = plain (number 0 r) (leading (Some tag.Content) (text 0) rs) ∷ []
 begun tag.PackedContents r rs = packed (number 0 r) (text 0 r) (number 1 r) (number 2 r) ∷ []
-begun tag.Names r rs = names (leading tag.Name name_of rs) ∷ []
-begun tag.Arguments r rs = arguments (leading tag.Pair pair_of rs) ∷ []
+begun tag.Names r rs = names (leading (Some tag.Name) name_of rs) ∷ []
+begun tag.Arguments r rs = arguments (leading (Some tag.Pair) pair_of rs) ∷ []
 begun tag.Unknown r rs = unknown (number 0 r) (text 0 r) ∷ []
 begun tag.Content r rs = []
 begun tag.Name r rs = []
 begun tag.Pair r rs = []
-begun tag.None r rs = []
 
 unfoldable pub sections : List Record → List Section
 sections [] = []

@@ -1,7 +1,7 @@
 -- Demand 2 as statements about the definitions: what is accepted is exactly what is written. Each is proved under its name in
 -- proofs/RoundTrips.antt, EncodedBytes.antt, SaidSections.antt or Renaming.antt. Where a statement needs that bytes are bytes, or that
 -- a row's numbers fit 32 bits, it says so; else payloads, edit texts, tables and outputs are any.
-use Rattle.std.specs.Prelude.{ℕ, ◌+◌, ◌*◌, ◌/◌, ◌^◌, ◌≤◌, ◌<◌, true, List, [], ◌∷◌, map, ◌≡◌, length, get_or, take, set, Ok}
+use Rattle.std.specs.Prelude.{ℕ, ◌+◌, ◌*◌, ◌/◌, ◌^◌, ◌≤◌, ◌<◌, true, List, [], ◌∷◌, map, ◌≡◌, length, get_or, take, set, Ok, Some}
 use Rattle.layout.specs.Checked.{Checked, check, then}
 use Rattle.layout.specs.Spans.{Span, part, span_bytes, inside}
 use Rattle.table.specs.Rows.{width, no_row, rows_of, store_row, name_row}
@@ -143,7 +143,7 @@ Renames =
     Bytes edit →
     parse p ≡ Ok rows →
     written p edit (renamed rows i text) ≡ Ok q →
-    (let new : Said = says Name ((get_or rows i no_row).c ∷ []) (text.count ∷ []) (span_bytes p edit text ∷ []) in
+    (let new : Said = says (Some Name) ((get_or rows i no_row).c ∷ []) (text.count ∷ []) (span_bytes p edit text ∷ []) in
     Bytes q × (again : List Row) × (parse q ≡ Ok again) × (map (said q []) again ≡ set (map (said p []) rows) i new))
 
 -- rows that only the limits can refuse
@@ -158,7 +158,7 @@ RenameIsWritten =
     (p edit : List ℕ) (rows : List Row) (i : ℕ) (text : Span) →
     Bytes p →
     parse p ≡ Ok rows →
-    tag_of (get_or rows i no_row).tag ≡ Name →
+    tag_of (get_or rows i no_row).tag ≡ Some Name →
     inside p edit text ≡ true →
     Text (span_bytes p edit text) →
     OnlyLimits p edit (renamed rows i text)
@@ -169,7 +169,7 @@ OwnTextIsWritten =
     (p edit : List ℕ) (rows : List Row) (i : ℕ) (text : Span) →
     Bytes p →
     parse p ≡ Ok rows →
-    tag_of (get_or rows i no_row).tag ≡ Name →
+    tag_of (get_or rows i no_row).tag ≡ Some Name →
     OwnText p text →
     OnlyLimits p edit (renamed rows i text)
 

@@ -16,7 +16,7 @@
 //
 // Walk, Lines, CopyWalk and CardWalk are no part of the meaning: they say how a pass goes over an accepted payload. Tags and
 // rows have code, and are defined in crate table; section kinds, refusals, spans and what a text must be in layout;
-// numbers, padding and NULs in wire; UTF-8 in utf8.
+// numbers and padding in wire; NULs in find; UTF-8 in utf8.
 //
 // Proved: each promise of specs/Promises.antt, specs/RoundTrips.antt, specs/Secrecy.antt, specs/Card.antt and specs/RefusedCalls.antt, and that the
 // starred samples hold. Nothing is assumed.

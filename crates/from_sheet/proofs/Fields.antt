@@ -8,8 +8,8 @@ use native.Mathlib.Numerals.{add-one}
 use native.Mathlib.Omega.{arith}
 use borrow.Author.Tests.{leb-true, eqb-true, ltb-true, ltb-false}
 use lib.Dec.{eqb, leb, ltb}
-use lib.ListN.{length, get_or, take, drop, length-drop, drop_of_length-le}
-use lib.Seq.{drop-cons, drop-drop, length-take-le, take_all}
+use lib.ListN.{length, get_or, take, drop, length-drop}
+use lib.Seq.{drop-cons, length-take-le, take_all}
 use Rattle.find.specs.Find.{until, is_any}
 use Rattle.find.proofs.FindLaws.{any-one, until-found, until-more, until-least}
 use Rattle.sheet.specs.Fields.{backslash, is_hex_digit, hex_value, is_hex_pairs, bytes_of_pairs, meant, unescape}
@@ -69,26 +69,27 @@ pairs_end_lem f i h = go (drop (2 * i) f) (omega (arith, length-drop (2 * i) f))
 
 -- ---- escapes
 
-pub unescape-pair : (f : List ℕ) (i : ℕ) → is_pair f i ≡ true → (i + 1 < length f) × (unescape (drop i f) ≡ meant (get_or f (i + 1) 0) ∷ unescape (drop (i + 2) f))
-unescape-pair f i e =
-    let (slash, more) = (and-eq-true_iff (eqb (get_or f i 0) backslash) (ltb (i + 1) (length f))).0 e in
-    let inside = ltb-true (i + 1) (length f) more in
-    (inside, ap unescape (two-next f i inside) ∙ rw (eqb-true (get_or f i 0) backslash slash) (escape-means _ _))
+-- the bytes from an index on, as a slice has them
+abbrev pub from : ℕ → List ℕ → List ℕ
+from n s = take (length s - n) (drop n s)
+
+from-is : (n : ℕ) (s : List ℕ) → from n s ≡ drop n s
+from-is n s = take_all (length s - n) (drop n s) (omega (arith, length-drop n s))
+
+pub unescape-pair : (s : List ℕ) → is_pair s ≡ true → (1 < length s) × (unescape s ≡ meant (get_or s 1 0) ∷ unescape (from 2 s))
+unescape-pair s e =
+    let (slash, more) = (and-eq-true_iff (eqb (get_or s 0 0) backslash) (ltb 1 (length s))).0 e in
+    let inside = ltb-true 1 (length s) more in
+    (inside, ap unescape (two-next s 0 inside) ∙ rw (eqb-true (get_or s 0 0) backslash slash, from-is) (escape-means _ _))
 
 -- a byte that stands for itself
-unescape-plain : (f : List ℕ) (i : ℕ) → i < length f → is_pair f i ≡ false → unescape (drop i f) ≡ get_or f i 0 ∷ unescape (drop (i + 1) f)
-unescape-plain f i h e = rw (add-one, drop-cons f i 0 h) (go (eqb (get_or f i 0) backslash) refl (ltb (i + 1) (length f)) refl e)
+unescape-plain : (b : ℕ) (s : List ℕ) → is_pair (b ∷ s) ≡ false → unescape (b ∷ s) ≡ b ∷ unescape s
+unescape-plain b [] e = unfold unescape in refl
+unescape-plain b (c ∷ s) e = go (eqb b backslash) refl e
   where
-    go :
-        (x : Bool) →
-        eqb (get_or f i 0) backslash ≡ x →
-        (y : Bool) →
-        ltb (i + 1) (length f) ≡ y →
-        (x && y) ≡ false →
-        unescape (get_or f i 0 ∷ drop (suc i) f) ≡ get_or f i 0 ∷ unescape (drop (suc i) f)
-    go true p true q h = let z : ◌≡◌ {A = ℕ} 0 1 = cc in absurd (omega arith)
-    go true p false q h = unfold unescape in rw (drop_of_length-le f (let l : length f ≤ suc i = omega (arith, ltb-false (i + 1) (length f) q) in l))
-    go false p y q h = plain-means (get_or f i 0) (drop (suc i) f) p
+    go : (x : Bool) → eqb b backslash ≡ x → (x && ltb 1 (length (b ∷ c ∷ s))) ≡ false → unescape (b ∷ c ∷ s) ≡ b ∷ unescape (c ∷ s)
+    go true p h = absurd (omega (arith, ltb-false 1 (length (b ∷ c ∷ s)) h))
+    go false p h = plain-means b (c ∷ s) p
 
 abbrev slash : ℕ → Bool
 slash b = is_any backslash backslash backslash b
@@ -106,35 +107,25 @@ unescape-run (b ∷ s) = go (eqb b backslash) refl (unescape-run s)
     go true e h = rw (until-found slash b s (any-one backslash b ∙ e))
     go false e h = rw (until-more slash b s (any-one backslash b ∙ e)) (plain-means b s e ∙ ap (λ (l : List ℕ). b ∷ l) h)
 
--- what is known of a run from a place on whose byte stands for itself
-pub record Run (f : List ℕ) (i n : ℕ) : Type 0 where
-  pub within : i + n ≤ length f
-  pub long : length (take n (drop i f)) ≡ n
-  pub is : unescape (drop i f) ≡ take n (drop i f) ++ unescape (drop (i + n) f)
+-- what is known of a run whose first byte stands for itself, where the search went over what follows it as a slice
+pub record Run (s : List ℕ) (n : ℕ) : Type 0 where
+  pub within : n ≤ length s
+  pub long : length (take n s) ≡ n
+  pub is : unescape s ≡ take n s ++ unescape (from n s)
 
-pub run : (f : List ℕ) (i m : ℕ) → i < length f → is_pair f i ≡ false → m ≡ until slash (drop (i + 1) f) → Run f i (1 + m)
-run f i m h e is =
-    let most : m ≤ length (drop (i + 1) f) = rw is (until-least slash (drop (i + 1) f)) in
-    let rest = length-drop (i + 1) f in
-    let all = length-drop i f in
-    let there : drop m (drop (i + 1) f) ≡ drop (i + (1 + m)) f = drop-drop m (i + 1) f ∙ ap (λ (k : ℕ). drop k f) (let q : i + 1 + m ≡ i + (1 + m) = omega arith in q) in
-    let ran : unescape (drop (i + 1) f) ≡ take m (drop (i + 1) f) ++ unescape (drop m (drop (i + 1) f)) = rw is (unescape-run (drop (i + 1) f)) in
+pub run-found : (s : List ℕ) (m : ℕ) → 0 < length s → is_pair s ≡ false → m ≡ until slash (from 1 s) → Run s (1 + m)
+run-found [] m h e is = absurd (omega arith)
+run-found (b ∷ s) m h e is =
+    let here : m ≡ until slash s = is ∙ ap (until slash) (from-is 1 (b ∷ s)) in
+    let most : m ≤ length s = rw here (until-least slash s) in
     let one : 1 + m ≡ suc m = omega arith in
-    let first : take (1 + m) (drop i f) ≡ get_or f i 0 ∷ take m (drop (i + 1) f) = rw (one, add-one, drop-cons f i 0 h) in
+    let ran : unescape s ≡ take m s ++ unescape (drop m s) = rw here (unescape-run s) in
     record {
       within = omega arith;
-      long = length-take-le (1 + m) (drop i f) (omega arith);
-      is = rw (first, ← there) (unescape-plain f i h e ∙ ap (λ (l : List ℕ). get_or f i 0 ∷ l) ran);
+      long = length-take-le (1 + m) (b ∷ s) (omega arith);
+      is = rw (from-is, one) (unescape-plain b s e ∙ ap (λ (l : List ℕ). b ∷ l) ran);
     }
 
-pub unescape-end : (f : List ℕ) (i : ℕ) → length f ≤ i → unescape (drop i f) ≡ []
-unescape-end f i h = unfold unescape in rw (drop_of_length-le f h)
-
--- the same, where the search went over what is left of the field as a slice
-pub run-found :
-    (f : List ℕ) (i m : ℕ) →
-    i < length f →
-    is_pair f i ≡ false →
-    m ≡ until slash (take (length f - (i + 1)) (drop (i + 1) f)) →
-    Run f i (1 + m)
-run-found f i m h e is = run f i m h e (is ∙ ap (until slash) (take_all (length f - (i + 1)) (drop (i + 1) f) (omega (arith, length-drop (i + 1) f))))
+pub unescape-end : (s : List ℕ) → length s < 1 → unescape s ≡ []
+unescape-end [] h = unfold unescape in refl
+unescape-end (b ∷ s) h = absurd (omega arith)

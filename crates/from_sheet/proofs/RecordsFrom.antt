@@ -1,6 +1,6 @@
 -- The lines from a place on: the one that stands there and those after it; and those of a whole sheet that is read.
 -- Assumes nothing.
-use Rattle.std.specs.Prelude.{Ok}
+use Rattle.std.specs.Prelude.{Option, Some, None, Ok, unwrap_or}
 use Prim.Native.Nat.{ℕ, ◌+◌, ◌-◌, ◌≤◌, ◌<◌}
 use mathlib.Core.Bool.{Bool, true, false}
 use mathlib.Core.List.{List, [], ◌∷◌, map}
@@ -14,18 +14,18 @@ use Rattle.find.specs.Find.{until}
 use Rattle.find.proofs.FindLaws.{until-least}
 use Rattle.layout.proofs.Checked.{check-good, then-good}
 use Rattle.table.specs.declared.tag.Tag.{Tag}
-use Rattle.table.specs.declared.tag.Tag.TheVariants.{None}
+use Rattle.table.specs.declared.tag.Tag.TheVariants.{Pair}
 use Rattle.format.specs.Encoding.{limit, encode}
 use Rattle.format.specs.Records.{Record, sections}
 use Rattle.format.proofs.Encoding.{limits-good}
 use Rattle.sheet.specs.Fields.{newline}
 use Rattle.sheet.specs.FromSheet.{bad_line, read_lines, sheet_records, from_sheet}
-use Rattle.sheet.specs.Lines.{split, is_ruled}
+use Rattle.sheet.specs.Lines.{split, said_by, is_ruled}
 use Rattle.sheet.proofs.LinesRead.{tested}
 use Rattle.sheet.proofs.PartsFound.{ends, part_end_lem, last-part, next-part}
 use Rattle.sheet.proofs.SheetsRead.{read-records}
 use Rattle.lines.specs.Measure.{line_end}
-use Rattle.from_sheet.specs.Records.{record_of, closed_parts, records_from, sections_from, LineChecked, LinesChecked, CheckedFrom, AtSection}
+use Rattle.from_sheet.specs.Records.{tag_in, fields_of, record_of, closed_parts, records_from, sections_from, LineChecked, LinesChecked, CheckedFrom, AtSection}
 
 -- ---- from a place on
 
@@ -79,7 +79,7 @@ records-end s at h = rw (drop_of_length-le s h)
 -- ---- a whole sheet
 
 read-lines :
-    (rest : List (List ℕ)) (n : ℕ) (previous : Tag) (first : List ℕ) (rs : List Record) →
+    (rest : List (List ℕ)) (n : ℕ) (previous : Option Tag) (first : List ℕ) (rs : List Record) →
     read_lines n previous first rest ≡ Ok rs →
     (map record_of (closed_parts first rest) ≡ rs) × LinesChecked first rest
 unfolding read_lines closed_parts LinesChecked
@@ -93,11 +93,12 @@ read-lines [] n previous last rs e =
 read-lines (second ∷ rest) n previous first rs e =
     let (r, this, more) = then-good _ _ _ e in
     let (others, after, same) = then-good _ _ _ more in
-    let (records, checked) = read-lines rest (n + 1) r.tag second others after in
+    let (records, checked) = read-lines rest (n + 1) (Some r.tag) second others after in
     let t = tested (bad_line n) previous first r this in
-    let own : record_of first ≡ r = sym t.is in
+    let named : tag_in first ≡ r.tag = ap (λ (o : Option Tag). unwrap_or o Pair) t.named in
+    let own : record_of first ≡ r = ap (λ (t : Tag). said_by t (fields_of first)) named ∙ sym t.is in
     let all : r ∷ others ≡ rs = cc in
-    (ap₂ (λ (a : Record) (l : List Record). a ∷ l) own records ∙ all, ((t.made, subst (λ (r : Record). is_ruled r ≡ true) t.is t.ruled), checked))
+    (ap₂ (λ (a : Record) (l : List Record). a ∷ l) own records ∙ all, ((t.named ∙ ap Some (sym named), rw named t.made, subst (λ (r : Record). is_ruled r ≡ true) (sym own) t.ruled), checked))
 
 pub sheet-read : (s : List ℕ) (rs : List Record) → sheet_records s ≡ Ok rs → (records_from s 0 ≡ rs) × AtSection s 0
 unfolding sheet_records

@@ -1,6 +1,6 @@
--- Whether a backslash stands at a place of a field, with a byte after it.
-use Rattle.std.specs.Prelude.{ℕ, ◌+◌, Bool, ◌&&◌, List, eqb, ltb, length, get_or}
+-- Whether bytes begin with a backslash and a byte after it.
+use Rattle.std.specs.Prelude.{ℕ, Bool, ◌&&◌, List, eqb, ltb, length, get_or}
 use Rattle.sheet.specs.Fields.{backslash}
 
-abbrev pub is_pair : List ℕ → ℕ → Bool
-is_pair field at = eqb (get_or field at 0) backslash && ltb (at + 1) (length field)
+abbrev pub is_pair : List ℕ → Bool
+is_pair s = eqb (get_or s 0 0) backslash && ltb 1 (length s)

@@ -1,16 +1,16 @@
 -- The lines of a sheet from a place on, as the records that they say. It is how the second pass goes; that these are the records of the sheet is a
 -- theorem (proofs/RecordsFrom.antt).
-use Rattle.std.specs.Prelude.{ℕ, true, List, [], ◌∷◌, map, ◌≡◌, drop}
+use Rattle.std.specs.Prelude.{ℕ, true, List, [], ◌∷◌, map, ◌≡◌, drop, Option, Some, None, unwrap_or}
 use Rattle.table.specs.declared.tag.Tag.{Tag}
-use Rattle.table.specs.declared.tag.Tag.TheVariants.{None}
+use Rattle.table.specs.declared.tag.Tag.TheVariants.{Pair}
 use Rattle.format.specs.Records.{Record, in_order, sections}
 use Rattle.format.specs.Sections.{Section}
 use Rattle.sheet.specs.Fields.{tab, newline}
 use Rattle.sheet.specs.Lines.{split, tag_of_word, said_by, is_made, is_ruled}
 
--- the tag, the fields and the record of a line without its newline
+-- The tag, the fields and the record of a line without its newline. A line that was checked has a tag; any stands for that of another.
 abbrev pub tag_in : List ℕ → Tag
-tag_in line = tag_of_word (split tab line).first
+tag_in line = unwrap_or (tag_of_word (split tab line).first) Pair
 
 abbrev pub fields_of : List ℕ → List (List ℕ)
 fields_of line = (split tab line).rest
@@ -30,9 +30,17 @@ module _ (s : List ℕ) (at : ℕ) where
   abbrev pub sections_from : List Section
   sections_from = sections records_from
 
--- what the first pass found of a line: it has just its fields, each of which is one, and it follows the rule of unknown sections
+-- the records that are left, where the first of them is made and the others are still to be: none where there is no first
+abbrev pub ahead_of : Option Record → List Record → List Record
+ahead_of None rs = []
+ahead_of (Some r) rs = r ∷ rs
+
+-- what the first pass found of a line: it has a tag and just its fields, each of which is one, and it follows the rule of unknown sections
 abbrev pub LineChecked : List ℕ → Type 0
-LineChecked line = (is_made (tag_in line) (fields_of line) ≡ true) × (is_ruled (record_of line) ≡ true)
+LineChecked line =
+    (tag_of_word (split tab line).first ≡ Some (tag_in line))
+    × (is_made (tag_in line) (fields_of line) ≡ true)
+    × (is_ruled (record_of line) ≡ true)
 
 -- and of all lines; what follows the last newline is empty
 unfoldable pub LinesChecked : List ℕ → List (List ℕ) → Type 0

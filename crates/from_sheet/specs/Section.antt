@@ -1,8 +1,7 @@
--- The section that a record begins, and where its stored bytes start.
+-- The section that a record begins, and how it is closed.
 use Rattle.std.specs.Prelude.{ℕ, ◌+◌, ◌-◌, List, [], ◌≡◌, length, get_or}
-use Rattle.table.specs.Tags.{entry_tag}
+use Rattle.table.specs.Tags.{entry_tag, headers_size}
 use Rattle.table.specs.declared.tag.Tag.{Tag}
-use Rattle.table.specs.declared.tag.Tag.TheVariants as tag
 use Rattle.format.specs.Encoding.{body_header, kind_of}
 use Rattle.format.specs.Records.{Record, begun}
 use Rattle.format.specs.Sections.{Section, unknown}
@@ -13,22 +12,10 @@ use Rattle.from_sheet.specs.Run.{run}
 abbrev pub section_of : Tag → Record → List Record → Section
 section_of t r rs = get_or (begun t r rs) 0 (unknown 0 [])
 
--- where the stored bytes of a section of a tag start, after its headers
-abbrev pub header_size : Tag → ℕ
-header_size tag.PlainContents = 28
-header_size tag.PackedContents = 28
-header_size tag.Names = 18
-header_size tag.Arguments = 20
-header_size tag.Unknown = 8
-header_size tag.Content = 0
-header_size tag.Name = 0
-header_size tag.Pair = 0
-header_size tag.None = 0
-
 -- an output after a section that a record begins, from a start on, is closed at the end of its stored bytes; so many entries follow the record
 abbrev pub Framed : Record → List ℕ → ℕ → ℕ → ℕ → List ℕ → Type 0
 Framed r output start end count after =
     (rs : List Record) →
     count ≡ length (run (entry_tag r.tag) rs) →
     (let s : Section = section_of r.tag r rs in
-    after ≡ framed output start end (kind_of s) (body_header s (end - (start + header_size r.tag))))
+    after ≡ framed output start end (kind_of s) (body_header s (end - (start + headers_size r.tag))))

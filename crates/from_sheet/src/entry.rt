@@ -1,5 +1,6 @@
 // Entries of contents and of names, and pairs, from the fields of their lines, stored at a place of the output. Each
-// answers the place after it.
+// answers the place after it. Crate write has the same of texts that stand in bytes: one for both would need a trait with a
+// law for what a text stores, and two types that keep it, which is no plainer than four functions of two or three lines.
 ghost use Rattle.std.specs.Prelude.{◌≡◌, ◌+◌, ◌≤◌, length};
 ghost use Rattle.std.proofs.lemmas.List.Edits.{sets};
 ghost use Rattle.wire.specs.Length.{wire_size};

@@ -15,7 +15,8 @@ fn value(digit: u8) -> u8
     }
 }
 
-// All bytes. Answers the place after them.
+// All bytes. Answers the place after them. By index: tried over `chunks_exact`, counted, and the proof did not close; and no
+// contract tells what is stored through an adapter of `iter_mut`.
 pub fn write_unpaired(output: &mut [u8], at: usize, field: &[u8]) -> usize
     requires field_value { is_hex_pairs field.now ≡ true }
     requires field_in_bounds { at + length (bytes_of_pairs field.now) ≤ length output.old }

@@ -5,21 +5,22 @@ ghost use Rattle.format.specs.Records.{Record, number_count, text_count, number,
 ghost use Rattle.sheet.specs.Lines.{said_by, is_made, is_ruled, is_shown, said};
 ghost use Rattle.from_sheet.specs.Records.{fields_of, tag_in, record_of, LineChecked};
 
+use line_reader::{SplitLine, read_number};
 use std::marker::Model;
 use table::Tag;
 
 #[derive(Drop)]
 pub struct LineRecord<'a> {
-    line: &'a [u8],
+    line: SplitLine<'a>,
     tag: Tag,
 }
 
 impl<'a> Model for LineRecord<'a> {
     ghost Value = { Record };
 
-    ghost view = { λ l. said_by l.tag (fields_of l.line.now) };
+    ghost view = { λ l. said_by l.tag (fields_of l.line.line.now) };
 
-    ghost invariant = { λ l. (is_made l.tag (fields_of l.line.now) ≡ true) × (is_ruled (said_by l.tag (fields_of l.line.now)) ≡ true) };
+    ghost invariant = { λ l. (is_made l.tag (fields_of l.line.line.now) ≡ true) × (is_ruled (said_by l.tag (fields_of l.line.line.now)) ≡ true) };
 }
 
 impl<'a> LineRecord<'a> {
@@ -28,10 +29,10 @@ impl<'a> LineRecord<'a> {
         requires { LineChecked line.now }
         ensures { result ≡ record_of line.now }
     {
-        LineRecord {
-            line,
-            tag: line_reader::tag_of(line),
-        }
+        let line = SplitLine::new(line);
+        // a checked line has a tag
+        let tag = line.tag().unwrap();
+        LineRecord { line, tag }
     }
 
     pub fn tag(&self) -> Tag
@@ -45,15 +46,15 @@ impl<'a> LineRecord<'a> {
         requires { index < number_count self.now.tag }
         ensures { result ≡ number index self.now }
     {
-        line_reader::read_number(line_reader::field(self.line, index)).unwrap_or(0)
+        read_number(self.line.field(index)).unwrap_or(0)
     }
 
-    // The kind of an unknown section.
+    // The kind of an unknown section. Here, where it is known to have 16 bits.
     pub fn kind(&self) -> u16
         requires { self.now.tag ≡ Unknown }
         ensures { result ≡ number 0 self.now }
     {
-        line_reader::read_number(line_reader::field(self.line, 0)).unwrap_or(0) as u16
+        read_number(self.line.field(0)).unwrap_or(0) as u16
     }
 
     // A field that says bytes or a text.
@@ -63,6 +64,6 @@ impl<'a> LineRecord<'a> {
         ensures shown { is_shown self.now.tag result.now ≡ true }
         ensures value { said self.now.tag result.now ≡ text (index - number_count self.now.tag) self.now }
     {
-        line_reader::field(self.line, index)
+        self.line.field(index)
     }
 }

@@ -1,5 +1,5 @@
 // The entries that records are, stored at a place of the output.
-ghost use Rattle.std.specs.Prelude.{◌≡◌, ◌+◌, ◌≤◌, ◌<◌, ◌^◌, length};
+ghost use Rattle.std.specs.Prelude.{◌≡◌, ◌+◌, ◌≤◌, ◌<◌, ◌^◌, length, Some};
 ghost use Rattle.std.proofs.lemmas.List.Edits.{sets};
 ghost use Rattle.format.specs.Encoding.{limit};
 ghost use Rattle.from_sheet.specs.Run.{entry_bytes, run, run_bytes, past};
@@ -32,19 +32,19 @@ fn store_entry(output: &mut [u8], to: u32, record: &LineRecord<'_>) -> usize
         Tag::Names => to as usize,
         Tag::Arguments => to as usize,
         Tag::Unknown => to as usize,
-        Tag::None => to as usize,
     }
 }
 
-// Stores the entries that the next records of a tag are, and answers where they end.
+// Stores the entries that the next records of a tag are, and answers where they end. How many they are is known as they are
+// taken.
 pub fn store_entries(records: &mut Records<'_>, tag: Tag, output: &mut [u8], start: usize) -> RunEnd
-    requires few { length (run tag records.old) < 2 ^ 32 }
-    requires in_bounds { start + length (run_bytes tag records.old) ≤ length output.old }
-    requires bound { start + length (run_bytes tag records.old) ≤ limit }
-    ensures records_after { records.new ≡ past tag records.old }
-    ensures to_value { result.to ≡ start + length (run_bytes tag records.old) }
-    ensures count_value { result.count ≡ length (run tag records.old) }
-    ensures output_after { output.new ≡ sets output.old start (run_bytes tag records.old) }
+    requires few { length (run (Some tag) records.old) < 2 ^ 32 }
+    requires in_bounds { start + length (run_bytes (Some tag) records.old) ≤ length output.old }
+    requires bound { start + length (run_bytes (Some tag) records.old) ≤ limit }
+    ensures records_after { records.new ≡ past (Some tag) records.old }
+    ensures to_value { result.to ≡ start + length (run_bytes (Some tag) records.old) }
+    ensures count_value { result.count ≡ length (run (Some tag) records.old) }
+    ensures output_after { output.new ≡ sets output.old start (run_bytes (Some tag) records.old) }
 {
     let mut to = start;
     let mut count = 0;

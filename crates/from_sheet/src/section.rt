@@ -1,14 +1,13 @@
 // A section from its record and those of its entries. What it stores goes first, and then what stands around it (crate
 // frames).
-ghost use Rattle.std.specs.Prelude.{true, ◌∷◌, ◌≡◌, ◌+◌, ◌-◌, ◌≤◌, length};
+ghost use Rattle.std.specs.Prelude.{true, ◌∷◌, ◌≡◌, ◌+◌, ◌-◌, ◌≤◌, length, None};
 ghost use Rattle.std.proofs.lemmas.List.Edits.{sets};
 ghost use Rattle.wire.specs.Padding.{aligned};
-ghost use Rattle.table.specs.Tags.{entry_tag, begins_section};
-ghost use Rattle.table.specs.declared.tag.Tag.TheVariants.{None};
+ghost use Rattle.table.specs.Tags.{entry_tag, begins_section, headers_size};
 ghost use Rattle.format.specs.Encoding.{limit, stored_bytes, encode_section};
 ghost use Rattle.format.specs.Records.{in_order, sections};
 ghost use Rattle.from_sheet.specs.Run.{run, past};
-ghost use Rattle.from_sheet.specs.Section.{section_of, header_size, Framed};
+ghost use Rattle.from_sheet.specs.Section.{section_of, Framed};
 
 use crate::hex::write_unpaired;
 use crate::record::LineRecord;
@@ -16,23 +15,6 @@ use crate::records::Records;
 use crate::run::{RunEnd, store_entries};
 use layout::{SourceCompression, SourceInfoSectionType};
 use table::Tag;
-
-// How many bytes the headers of a section of a tag have.
-fn header_size(tag: Tag) -> usize
-    ensures { result ≡ header_size tag }
-{
-    match tag {
-        Tag::PlainContents => SourceInfoSectionType::CONTENTS_START,
-        Tag::PackedContents => SourceInfoSectionType::CONTENTS_START,
-        Tag::Names => SourceInfoSectionType::NAMES_START,
-        Tag::Arguments => SourceInfoSectionType::ARGS_START,
-        Tag::Unknown => SourceInfoSectionType::SECTION_HEADER_SIZE,
-        Tag::Content => 0,
-        Tag::Name => 0,
-        Tag::Pair => 0,
-        Tag::None => 0,
-    }
-}
 
 // Stores what the section that a record begins stores: its bytes, or the entries that the next records are. Answers
 // where they end.
@@ -43,7 +25,6 @@ fn store_body(
     start: usize,
 ) -> RunEnd
     requires begins { begins_section record.now.tag ≡ true }
-    requires order { in_order record.now.tag records.old ≡ true }
     requires in_bounds { start + length (stored_bytes (section_of record.now.tag record.now records.old)) ≤ length output.old }
     requires bound { start + length (stored_bytes (section_of record.now.tag record.now records.old)) ≤ limit }
     ensures records_after { records.new ≡ past (entry_tag record.now.tag) records.old }
@@ -60,7 +41,13 @@ fn store_body(
             to: write_unpaired(output, start, record.field(1)),
             count: 0,
         },
-        tag => store_entries(records, tag.entry_tag(), output, start),
+        tag => {
+            // any other section has entries
+            let Some(entry) = tag.entry_tag() else {
+                unreachable!()
+            };
+            store_entries(records, entry, output, start)
+        }
     }
 }
 
@@ -68,7 +55,7 @@ fn store_body(
 // entries. Answers the place after it.
 fn close(output: &mut [u8], record: &LineRecord<'_>, start: u32, end: u32, count: u32) -> usize
     requires begins { begins_section record.now.tag ≡ true }
-    requires end_bound { start + header_size record.now.tag ≤ end }
+    requires end_bound { start + headers_size record.now.tag ≤ end }
     ensures value { result ≡ start + aligned (end - start) }
     ensures framed { Framed record.now output.old start end count output.new }
 {
@@ -104,7 +91,6 @@ fn close(output: &mut [u8], record: &LineRecord<'_>, start: u32, end: u32, count
         Tag::Content => start as usize,
         Tag::Name => start as usize,
         Tag::Pair => start as usize,
-        Tag::None => start as usize,
     }
 }
 
@@ -124,7 +110,7 @@ pub fn store_section(
     ensures to_value { result ≡ to + length (encode_section (section_of record.now.tag record.now records.old)) }
     ensures output_after { output.new ≡ sets output.old to (encode_section (section_of record.now.tag record.now records.old)) }
 {
-    let start = to + header_size(record.tag());
+    let start = to + record.tag().headers_size();
     let body = store_body(record, records, output, start);
     close(output, record, to as u32, body.to as u32, body.count as u32)
 }

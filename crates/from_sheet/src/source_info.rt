@@ -1,8 +1,7 @@
 // A whole payload: its sections in order, and the main header before them.
-ghost use Rattle.std.specs.Prelude.{true, ◌≡◌, ◌+◌, ◌≤◌, length};
+ghost use Rattle.std.specs.Prelude.{true, ◌≡◌, ◌+◌, ◌≤◌, length, None};
 ghost use mathlib.Core.List.{flat_map};
 ghost use Rattle.std.proofs.lemmas.List.Edits.{sets};
-ghost use Rattle.table.specs.declared.tag.Tag.TheVariants.{None};
 ghost use Rattle.format.specs.Encoding.{limit, encode_section, encode};
 ghost use Rattle.format.specs.Records.{in_order, sections};
 
@@ -10,7 +9,8 @@ use crate::records::Records;
 use crate::section::store_section;
 use layout::SourceInfoSectionType;
 
-// All sections, after the main header. Answers how many they are.
+// All sections, after the main header. Answers how many they are, which is known as they are taken. No `for`: a section takes
+// its entries from the same records.
 fn store_sections(mut records: Records<'_>, output: &mut [u8]) -> u16
     requires order { in_order None records ≡ true }
     requires few { length (sections records) ≤ 65535 }

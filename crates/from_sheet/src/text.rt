@@ -1,5 +1,5 @@
 // The text that a field says: its escapes are resolved.
-ghost use Rattle.std.specs.Prelude.{◌≡◌, ◌+◌, ◌≤◌, ◌<◌, length};
+ghost use Rattle.std.specs.Prelude.{◌≡◌, ◌+◌, ◌≤◌, length};
 ghost use Rattle.std.proofs.lemmas.List.Edits.{sets};
 ghost use Rattle.sheet.specs.Fields.{meant, unescape};
 ghost use Rattle.from_sheet.specs.Escape.{is_pair};
@@ -17,16 +17,15 @@ fn meant_by(letter: u8) -> u8
     }
 }
 
-// Whether a backslash stands at a place, with a byte after it.
-fn is_pair(field: &[u8], at: usize) -> bool
-    requires { at < length field.now }
-    ensures { result ≡ is_pair field.now at }
+// Whether they begin with a backslash and a byte after it. Tried as a pattern in the loop: of the branch for all else the
+// proof has no facts.
+fn is_pair(bytes: &[u8]) -> bool
+    ensures { result ≡ is_pair bytes.now }
 {
-    (field[at] == BACKSLASH) & (at + 1 < field.len())
+    matches!(bytes, [BACKSLASH, _, ..])
 }
 
-// A whole text. Bytes that stand for themselves are copied in runs, so that the place moves on by their
-// lengths; a backslash with nothing after it is one of them.
+// A whole text. Bytes that stand for themselves are copied in runs; a backslash with nothing after it is one of them.
 // Answers the place after it.
 pub fn write_unescaped(output: &mut [u8], at: usize, field: &[u8]) -> usize
     requires { at + length (unescape field.now) ≤ length output.old }
@@ -34,17 +33,17 @@ pub fn write_unescaped(output: &mut [u8], at: usize, field: &[u8]) -> usize
     ensures output_after { output.new ≡ sets output.old at (unescape field.now) }
 {
     let mut to = at;
-    let mut i = 0;
-    while i < field.len() {
-        if is_pair(field, i) {
-            output[to] = meant_by(field[i + 1]);
+    let mut rest = field;
+    while let [_, after @ ..] = rest {
+        if is_pair(rest) {
+            output[to] = meant_by(rest[1]);
             to += 1;
-            i += 2;
+            rest = &rest[2..];
         } else {
-            let run = 1 + find::find_any(&field[i + 1..], BACKSLASH, BACKSLASH, BACKSLASH);
-            wire::write_bytes(output, to, &field[i..i + run]);
+            let run = 1 + find::find_any(after, BACKSLASH, BACKSLASH, BACKSLASH);
+            wire::write_bytes(output, to, &rest[..run]);
             to += run;
-            i += run;
+            rest = &rest[run..];
         }
     }
     to

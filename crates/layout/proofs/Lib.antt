@@ -1,8 +1,8 @@
+pub mod BySide
 pub mod Checked
 pub mod Faults
 pub mod Lists
 pub mod PlainText
 pub mod Promises
-pub mod Sides
 pub mod TextCheck
 pub mod Unknown

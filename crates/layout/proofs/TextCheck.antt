@@ -4,12 +4,12 @@ use Rattle.std.specs.Prelude.{Err, Ok}
 use Prim.Native.Nat.{ℕ, ◌≤◌, ◌<◌}
 use mathlib.Core.Bool.{true, false}
 use mathlib.Core.List.{List}
-use mathlib.Core.Path.{◌≡◌, refl}
+use mathlib.Core.Path.{◌≡◌}
 use borrow.Author.Tests.{lt-ltb, le-ltb}
 use lib.ListN.{length}
 use Rattle.utf8.specs.Rfc3629.{well_formed}
 use Rattle.find.specs.Nul.{until_nul}
-use Rattle.layout.specs.Checked.{Checked, check, then}
+use Rattle.layout.specs.Checked.{check}
 use Rattle.layout.specs.Spans.{part}
 use Rattle.layout.specs.TextCheck.{check_whole, check_text}
 use Rattle.layout.specs.declared.refusal.Refusal.TheVariants.{NotUtf8, InnerNul}
@@ -36,9 +36,3 @@ module _ (bytes : List ℕ) (start count : ℕ) (text : List ℕ) (is : text ≡
   pub check-passed : well_formed text ≡ true → length text ≤ until_nul text → check_text bytes start count ≡ Ok tt
   unfolding check_text
   check-passed e h = rw (← is) (whole-passed text e h)
-
--- after the last of some texts there is nothing to check
-pub last-text : (c : Checked (Unit {0})) → c ≡ (then c (λ _. Ok tt))
-unfolding then
-last-text (Err r) = refl
-last-text (Ok a) = refl

@@ -1,5 +1,5 @@
 -- The numbers of section kinds and of compression, as DxilContainer.h gives them; and which kinds are known.
-use Rattle.std.specs.Prelude.{ℕ, zero, suc, Option, None, Some}
+use Rattle.std.specs.Prelude.{ℕ, Bool, true, false, zero, suc, Option, None, Some}
 use Rattle.layout.specs.declared.section_type.SourceInfoSectionType.{SourceInfoSectionType}
 use Rattle.layout.specs.declared.section_type.SourceInfoSectionType.TheVariants.{SourceContents, SourceNames, Arguments, Unknown}
 use Rattle.layout.specs.declared.compression.SourceCompression.{SourceCompression}
@@ -19,12 +19,12 @@ kind_number SourceNames = 1
 kind_number Arguments = 2
 kind_number (Unknown n) = n
 
--- how many sections a public copy has for one of a kind: one where the kind is known
-abbrev pub known : SourceInfoSectionType → ℕ
-known SourceContents = 1
-known SourceNames = 1
-known Arguments = 1
-known (Unknown n) = 0
+-- whether a kind is known, so that a public copy has a section for one of it
+abbrev pub known : SourceInfoSectionType → Bool
+known SourceContents = true
+known SourceNames = true
+known Arguments = true
+known (Unknown n) = false
 
 -- the compression that a number stands for, if it stands for one
 abbrev pub compression : ℕ → Option SourceCompression

@@ -16,5 +16,5 @@ pub const PAYLOAD_LIMIT: usize = 26_214_400;
 pub use compression::SourceCompression;
 pub use refusal::{Answer, Refusal, answer_number, answer_second};
 pub use section_type::SourceInfoSectionType;
-pub use text::{bytes_of, part_of, text_of};
+pub use text::{Sides, part_of};
 pub use text_check::{check_text, check_whole};

@@ -79,7 +79,7 @@ impl Refusal {
         }
     }
 
-    // Rows or bytes that are needed, where that is what was lacking; a line's number; else 0.
+    // Rows or bytes that are needed, where that is what was lacking; a line's number; else 0, since C has two numbers.
     pub fn second(self) -> u32
         ensures { result ≡ refusal_second self }
     {

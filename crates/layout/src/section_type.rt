@@ -63,15 +63,15 @@ impl SourceInfoSectionType {
         }
     }
 
-    // How many sections a public copy has for one of this kind: one where the kind is known.
-    pub fn known(self) -> u16
+    // Whether a public copy has a section for one of this kind.
+    pub fn is_known(self) -> bool
         ensures { result ≡ known self }
     {
         match self {
-            SourceInfoSectionType::SourceContents => 1,
-            SourceInfoSectionType::SourceNames => 1,
-            SourceInfoSectionType::Arguments => 1,
-            SourceInfoSectionType::Unknown(_) => 0,
+            SourceInfoSectionType::SourceContents => true,
+            SourceInfoSectionType::SourceNames => true,
+            SourceInfoSectionType::Arguments => true,
+            SourceInfoSectionType::Unknown(_) => false,
         }
     }
 }

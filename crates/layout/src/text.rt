@@ -1,37 +1,39 @@
 // The text or bytes of a span: a part of the payload or of the edit text, by its side.
 ghost use Rattle.std.specs.Prelude.{◌≡◌};
-ghost use Rattle.layout.specs.Spans.{span, part, span_bytes};
+ghost use Rattle.layout.specs.Spans.{span, side_of, part, span_bytes};
 
 use wire::TextLength;
 
-// The `count` bytes from `start` on of one of two slices; fewer where it ends before.
-#[tactic(auto, using(crate::proofs::Sides::sides))]
-pub fn bytes_of<'a>(
-    payload: &'a [u8],
-    edit: &'a [u8],
-    side: u32,
-    start: u32,
-    count: u32,
-) -> &'a [u8]
-    ensures { result.now ≡ span_bytes payload.now edit.now (span side start count) }
-{
-    if side == 0 {
-        return part_of(payload, start as usize, count as usize);
-    }
-    part_of(edit, start as usize, count as usize)
+// The two sides that a span may lie on. Its side is a number, as a row of the C interface holds it.
+#[derive(Clone, Copy)]
+pub struct Sides<'a> {
+    pub payload: &'a [u8],
+    pub edit: &'a [u8],
 }
 
-// The text from `start` on of one of two slices.
-pub fn text_of<'a>(
-    payload: &'a [u8],
-    edit: &'a [u8],
-    side: u32,
-    start: u32,
-    text: TextLength,
-) -> &'a [u8]
-    ensures { result.now ≡ span_bytes payload.now edit.now (span side start text.0) }
-{
-    bytes_of(payload, edit, side, start, text.0)
+impl<'a> Sides<'a> {
+    // All bytes of a side: 0 is the payload, any other the edit text.
+    #[inline(always)]
+    #[tactic(auto, using(crate::proofs::BySide::sides))]
+    pub fn side(self, side: u32) -> &'a [u8]
+        ensures { result.now ≡ side_of side self.entry.payload.now self.entry.edit.now }
+    {
+        if side == 0 { self.payload } else { self.edit }
+    }
+
+    // The `count` bytes of a side from `start` on; fewer where it ends before.
+    pub fn bytes_of(self, side: u32, start: u32, count: u32) -> &'a [u8]
+        ensures { result.now ≡ span_bytes self.entry.payload.now self.entry.edit.now (span side start count) }
+    {
+        part_of(self.side(side), start as usize, count as usize)
+    }
+
+    // The text of a side from `start` on.
+    pub fn text_of(self, side: u32, start: u32, text: TextLength) -> &'a [u8]
+        ensures { result.now ≡ span_bytes self.entry.payload.now self.entry.edit.now (span side start text.0) }
+    {
+        self.bytes_of(side, start, text.0)
+    }
 }
 
 // The `count` bytes from `start` on; fewer where the slice ends before.

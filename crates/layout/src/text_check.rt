@@ -17,7 +17,7 @@ impl From<Utf8Error> for Refusal {
     }
 }
 
-// Up to this length a text is held to be plain at first. A longer one may well have other characters, and
+// Below this length a text is held to be plain at first. A longer one may well have other characters, and
 // then a look at all of it would be in vain.
 const SHORT: usize = 4096;
 
@@ -33,8 +33,8 @@ fn is_plain(text: &[u8]) -> bool
     plain
 }
 
-// A whole text. Of a plain one a single look at each byte tells that it passes; any other is gone through twice,
-// for its characters and for a NUL.
+// A whole text. Of a short plain one a single look at each byte tells that it passes; any other is gone through for its
+// characters, and then for a NUL.
 pub fn check_whole(text: &[u8]) -> Result<(), Refusal>
     ensures { result ≡ check_whole text.now }
 {
@@ -44,10 +44,10 @@ pub fn check_whole(text: &[u8]) -> Result<(), Refusal>
         }
     }
     validate::validate(text)?;
-    if find::find_nul(text) == text.len() {
-        Ok(())
-    } else {
+    if find::find_nul(text).is_some() {
         Err(Refusal::InnerNul)
+    } else {
+        Ok(())
     }
 }
 

@@ -17,14 +17,14 @@ use Rattle.find.proofs.FindLaws.{until-least}
 use Rattle.sheet.specs.Fields.{tab}
 use Rattle.sheet.specs.Lines.{split}
 use Rattle.sheet.proofs.PartsFound.{part_end_lem, first_part}
-use Rattle.line_reader.specs.Ends.{part_end, next_end, end_from, ends_of}
+use Rattle.line_reader.specs.Ends.{part_end, next_end, end_from}
 use Rattle.line_reader.proofs.FieldLaws.{field-none, field-first, field_next, count-tab, count-last}
 
 -- a part ends within the line
 part-most : (s : List ℕ) (at : ℕ) → at ≤ length s → part_end s at ≤ length s
 part-most s at h = omega (arith, until-least (is_any tab tab tab) (drop at s), length-drop at s)
 
-pub next-most : (s : List ℕ) (end : ℕ) → end ≤ length s → next_end s end ≤ length s
+next-most : (s : List ℕ) (end : ℕ) → end ≤ length s → next_end s end ≤ length s
 next-most s end h = go (ltb end (length s)) refl
   where
     go : (more : Bool) → ltb end (length s) ≡ more → cond more (part_end s (end + 1)) end ≤ length s
@@ -189,14 +189,6 @@ count-from s (suc n) at h = more-fields s at h n ∙ go (count-from s n (part_en
 
 -- ---- of a whole line
 
-pub end_at : (s : List ℕ) (k : ℕ) → k < 5 → get_or (ends_of s) k 0 ≡ end_from s 0 k
-end_at s zero h = refl
-end_at s (suc zero) h = refl
-end_at s (suc (suc zero)) h = refl
-end_at s (suc (suc (suc zero))) h = refl
-end_at s (suc (suc (suc (suc zero)))) h = refl
-end_at s (suc (suc (suc (suc (suc k))))) h = absurd (omega arith)
-
 module _ (s : List ℕ) where
   pub line-most : (k : ℕ) → end_from s 0 k ≤ length s
   line-most k = end-most s 0 (omega arith) k
@@ -205,12 +197,22 @@ module _ (s : List ℕ) where
   unfolding end_from
   next-is k = rw add-one
 
+  -- the part after a tab ends where the next one is found
+  pub next-part : (k : ℕ) → end_from s 0 k < length s → part_end s (end_from s 0 k + 1) ≡ end_from s 0 (k + 1)
+  next-part k h = sym (next-is k ∙ more-after s (end_from s 0 k) h)
+
   pub word-is : (split tab s).first ≡ take (end_from s 0 0) s
   unfolding end_from
   word-is = first_part tab s ∙ ap (λ (n : ℕ). take n s) (sym (zero-add _))
 
   pub field-is : (k : ℕ) → get_or (split tab s).rest k [] ≡ part_after s (end_from s 0 k) (end_from s 0 (k + 1))
   field-is k = rw add-one (field-from s k 0 (omega arith))
+
+  -- where a part ends with the line no field follows
+  pub field-past : (j k : ℕ) → end_from s 0 j ≡ length s → j ≤ k → get_or (split tab s).rest k [] ≡ []
+  field-past j k e h =
+      let stays = end-stays s 0 j (omega (arith, e)) k h in
+      field-is k ∙ nothing_after s (end_from s 0 k) (end_from s 0 (k + 1)) (omega (arith, stays, e))
 
   -- whether there are so many fields
   abbrev has : ℕ → Bool

@@ -1,5 +1,6 @@
 -- The laws of the fields of a line, from one tab to the next; and of words, a byte at a time.
 -- Assumes nothing.
+use Rattle.std.specs.Prelude.{Option, Some, None}
 use Prim.Native.Nat.{ℕ, zero, suc, ◌+◌, ◌-◌, ◌<◌}
 use mathlib.Core.Bool.{true, false}
 use mathlib.Core.List.{List, [], ◌∷◌}
@@ -9,7 +10,6 @@ use Rattle.std.specs.Str.{bytes_eq}
 use lib.ListN.{length, get_or, drop}
 use Rattle.find.specs.Find.{until, is_any}
 use Rattle.table.specs.declared.tag.Tag.{Tag}
-use Rattle.table.specs.declared.tag.Tag.TheVariants.{None}
 use Rattle.sheet.specs.Fields.{tab}
 use Rattle.sheet.specs.Lines.{word, split, same, tag_among}
 use Rattle.sheet.proofs.PartsFound.{last-part, next-part}
@@ -45,11 +45,11 @@ same_is (a ∷ s) [] = refl
 same_is (a ∷ s) (b ∷ t) = rw (same_is s t)
 
 -- the tag that has a word, tried one by one
-pub word_found : (t : Tag) (ts : List Tag) (w : List ℕ) {l : List ℕ} → true ≡ bytes_eq w l → l ≡ word t → t ≡ tag_among (t ∷ ts) w
+pub word_found : (t : Tag) (ts : List Tag) (w : List ℕ) {l : List ℕ} → true ≡ bytes_eq w l → l ≡ word t → Some t ≡ tag_among (t ∷ ts) w
 unfolding tag_among
 word_found t ts w e is = rw (same_is, ← is, ← e)
 
-pub word_passed : (t u : Tag) (ts : List Tag) (w : List ℕ) {l : List ℕ} → false ≡ bytes_eq w l → l ≡ word t → u ≡ tag_among ts w → u ≡ tag_among (t ∷ ts) w
+pub word_passed : (t : Tag) (u : Option Tag) (ts : List Tag) (w : List ℕ) {l : List ℕ} → false ≡ bytes_eq w l → l ≡ word t → u ≡ tag_among ts w → u ≡ tag_among (t ∷ ts) w
 unfolding tag_among
 word_passed t u ts w e is h = rw (same_is, ← is, ← e) h
 

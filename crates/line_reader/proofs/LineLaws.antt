@@ -102,7 +102,6 @@ bare : (t : Tag) → number_count t + text_count t ≡ 0 → Shown t []
 unfolding line_sizes is_made all same_tag text_fields check_all
 bare tag.Names e = record { sizes-are = refl; texts-are = λ e. refl }
 bare tag.Arguments e = record { sizes-are = refl; texts-are = λ e. refl }
-bare tag.None e = record { sizes-are = refl; texts-are = λ e. refl }
 bare tag.PlainContents e = absurd (omega arith)
 bare tag.PackedContents e = absurd (omega arith)
 bare tag.Unknown e = absurd (omega arith)
@@ -156,16 +155,19 @@ shown tag.Unknown fs e = subst (Shown tag.Unknown) (exactly 2 fs e) (other _ _)
 shown tag.Content fs e = subst (Shown tag.Content) (exactly 1 fs e) (content _)
 shown tag.Name fs e = subst (Shown tag.Name) (exactly 2 fs e) (name _ _)
 shown tag.Pair fs e = subst (Shown tag.Pair) (exactly 2 fs e) (pair _ _)
-shown tag.None fs e = subst (Shown tag.None) (exactly 0 fs e) (bare tag.None refl)
 
 -- ---- the check of a line
 
-module _ (q : Refusal) (previous t : Tag) (fs : List (List ℕ)) where
-  pub line-misplaced : is_placed previous t ≡ false → line_told (read_fields q previous t fs) ≡ Err q
+pub line-untagged : (q : Refusal) (previous : Option Tag) (fs : List (List ℕ)) → line_told (read_fields q previous None fs) ≡ Err q
+unfolding read_fields
+line-untagged q previous fs = refl
+
+module _ (q : Refusal) (previous : Option Tag) (t : Tag) (fs : List (List ℕ)) where
+  pub line-misplaced : is_placed previous t ≡ false → line_told (read_fields q previous (Some t) fs) ≡ Err q
   unfolding read_fields check
   line-misplaced e = rw (e, and-false)
 
-  pub line-miscounted : eqb (length fs) (number_count t + text_count t) ≡ false → line_told (read_fields q previous t fs) ≡ Err q
+  pub line-miscounted : eqb (length fs) (number_count t + text_count t) ≡ false → line_told (read_fields q previous (Some t) fs) ≡ Err q
   unfolding read_fields check is_made
   line-miscounted e = rw e
 
@@ -174,7 +176,7 @@ module _ (q : Refusal) (previous t : Tag) (fs : List (List ℕ)) where
     h = shown t fs (eqb-true _ _ many)
 
     -- where a line is refused for its fields
-    pub line-unsized : line_sizes t fs ≡ None → line_told (read_fields q previous t fs) ≡ Err q
+    pub line-unsized : line_sizes t fs ≡ None → line_told (read_fields q previous (Some t) fs) ≡ Err q
     unfolding read_fields check
     line-unsized e = rw placed (go (is_made t fs) (is_ruled (said_by t fs)) (sym h.sizes-are ∙ e))
       where
@@ -191,7 +193,7 @@ module _ (q : Refusal) (previous t : Tag) (fs : List (List ℕ)) where
         (s : LineSizes) (c : Checked (Unit {0})) →
         line_sizes t fs ≡ Some s →
         check_all (text_fields t fs) ≡ c →
-        line_told (read_fields q previous t fs) ≡ taking (λ _. s) c
+        line_told (read_fields q previous (Some t) fs) ≡ taking (λ _. s) c
     unfolding read_fields check then
     line-sized s c e d = rw placed (go (is_made t fs) refl (is_ruled (said_by t fs)) (sym h.sizes-are ∙ e))
       where

@@ -6,16 +6,15 @@ use Prim.Native.Nat.{ℕ, zero, suc, ◌+◌, ◌-◌, ◌/◌, ◌%◌, ◌≤�
 use mathlib.Core.Bool.{Bool, true, false, ◌&&◌, and-true}
 use mathlib.Core.List.{List, [], ◌∷◌}
 use mathlib.Core.Path.{◌≡◌, refl, sym, ap, ◌∙◌}
-use native.Mathlib.Decide.{dec_le}
 use native.Mathlib.Nat.{add-zero}
 use native.Mathlib.Numerals.{add-one}
 use native.Mathlib.Omega.{arith}
 use borrow.Author.Tests.{ne_eqb}
 use lib.Dec.{eqb}
-use lib.ListN.{length, get_or, drop, get_or-eq_default, drop_of_length-le}
-use lib.Seq.{drop-cons, drop-drop}
+use lib.ListN.{length, get_or, take, drop, length-drop, drop_of_length-le}
+use lib.Seq.{drop-cons, take_all}
 use Rattle.find.specs.Find.{until, is_any}
-use Rattle.find.proofs.FindLaws.{any-one, until-found, until-more, until-step}
+use Rattle.find.proofs.FindLaws.{any-one, until-found, until-more, until-step, until-least}
 use Rattle.sheet.specs.Fields.{backslash, all, is_hex_digit, is_hex_pairs, bytes_of_pairs, is_escape, is_escaped, unescape}
 use Rattle.sheet.proofs.Escapes.{plain-is, plain-means, escape-is, escape-means}
 use Rattle.line_reader.specs.Sizes.{size_told, bytes_told, text_told}
@@ -89,51 +88,49 @@ text-run n (suc m) (b ∷ s) h = go (eqb b backslash) refl (text-run (n + 1) m s
         let all : n + 1 + m ≡ n + suc m = omega arith in
         rw (plain-is b s e, plain-means b s e, one, ← all) (more (omega (arith, until-more slash b s (any-one 92 b ∙ e))))
 
--- a byte that stands for itself, with those after it before the next backslash
+-- the bytes from an index on, as a slice has them
+abbrev pub from : ℕ → List ℕ → List ℕ
+from n s = take (length s - n) (drop n s)
+
+from-is : (n : ℕ) (s : List ℕ) → from n s ≡ drop n s
+from-is n s = take_all (length s - n) (drop n s) (omega (arith, length-drop n s))
+
+pub length-from : (n : ℕ) (s : List ℕ) → length (from n s) ≡ length s - n
+length-from n s = ap length (from-is n s) ∙ length-drop n s
+
+-- a run whose first byte stands for itself, up to the next backslash
 pub text-plain :
-    (n : ℕ) (s : List ℕ) (at end : ℕ) →
-    at < length s →
-    (get_or s at 0 ≡ backslash → ⊥) →
-    end ≡ at + 1 + until slash (drop (at + 1) s) →
-    text_told n (drop at s) ≡ text_told (n + (end - at)) (drop end s)
-text-plain n s at end h plain is =
-    let none : slash (get_or s at 0) ≡ false = any-one 92 (get_or s at 0) ∙ ne_eqb (get_or s at 0) backslash plain in
-    let past : at + (end - at) ≡ end = omega arith in
-    text-run n (end - at) (drop at s) (omega (arith, until-step slash s at h none)) ∙
-    ap (text_told (n + (end - at))) (drop-drop (end - at) at s ∙ ap (λ (k : ℕ). drop k s) past)
+    (n : ℕ) (s : List ℕ) →
+    1 ≤ length s →
+    (get_or s 0 0 ≡ backslash → ⊥) →
+    (1 ≤ until slash s) × (until slash s ≤ length s) × (text_told n s ≡ text_told (n + until slash s) (from (until slash s) s))
+text-plain n s h plain =
+    let none : slash (get_or s 0 0) ≡ false = any-one 92 (get_or s 0 0) ∙ ne_eqb (get_or s 0 0) backslash plain in
+    (omega (arith, until-step slash s 0 h none), until-least slash s, rw from-is (text-run n (until slash s) s (omega arith)))
 
-pub text-done : (n : ℕ) (s : List ℕ) (at : ℕ) → length s ≤ at → text_told n (drop at s) ≡ Some n
+pub text-done : (n : ℕ) (s : List ℕ) → length s < 1 → text_told n s ≡ Some n
 unfolding is_escaped unescape
-text-done n s at h = rw (drop_of_length-le s h, add-zero)
+text-done n [] h = rw add-zero
+text-done n (b ∷ s) h = absurd (omega arith)
 
--- what may follow a backslash is there
-pub escape-inside : (s : List ℕ) (i : ℕ) → is_escape (get_or s i 0) ≡ true → i < length s
-escape-inside s i e =
-    elim (dec_le (length s) i) [
-      | yes q ↦
-          let none : is_escape 0 ≡ true = rw (get_or-eq_default s 0 q) at e in
-          let z : ◌≡◌ {A = ℕ} 0 1 = cc in
-          absurd (omega arith)
-      | no q ↦ omega arith
-    ]
+-- a backslash and what follows it
+pub text-escape :
+    (n : ℕ) (s : List ℕ) →
+    1 ≤ length s →
+    get_or s 0 0 ≡ backslash →
+    is_escape (get_or (from 1 s) 0 0) ≡ true →
+    (2 ≤ length s) × (text_told n s ≡ text_told (n + 1) (from 1 (from 1 s)))
+text-escape n [] h is e = absurd (omega arith)
+text-escape n (a ∷ []) h is e = let z : ◌≡◌ {A = ℕ} 0 1 = cc in absurd (omega arith)
+text-escape n (a ∷ b ∷ s) h is e =
+    let own : is_escape b ≡ true = rw from-is at e in
+    let one : n + suc (length (unescape s)) ≡ n + 1 + length (unescape s) = omega arith in
+    (omega arith, rw (from-is, from-is, is, escape-is, escape-means, own, one))
 
-module _ (n : ℕ) (s : List ℕ) (i : ℕ) (h : i < length s) (is : get_or s i 0 ≡ backslash) where
-  two : i + 1 < length s → drop i s ≡ backslash ∷ get_or s (i + 1) 0 ∷ drop (i + 2) s
-  two inside =
-      let past : i + 2 ≡ suc (suc i) = omega arith in
-      let more : suc i < length s = omega arith in
-      rw (add-one, past, drop-cons s i 0 h, is, drop-cons s (suc i) 0 more)
-
-  -- a backslash and what follows it
-  pub text-escape : is_escape (get_or s (i + 1) 0) ≡ true → text_told n (drop i s) ≡ text_told (n + 1) (drop (i + 2) s)
-  text-escape e =
-      let one : n + suc (length (unescape (drop (i + 2) s))) ≡ n + 1 + length (unescape (drop (i + 2) s)) = omega arith in
-      rw (two (escape-inside s (i + 1) e), escape-is, escape-means, e, one)
-
-  pub text-bad : is_escape (get_or s (i + 1) 0) ≡ false → text_told n (drop i s) ≡ None
-  unfolding is_escaped
-  text-bad e =
-      elim (dec_le (length s) (i + 1)) [
-        | yes q ↦ let last : length s ≤ suc i = omega arith in rw (drop-cons s i 0 h, is, drop_of_length-le s last)
-        | no q ↦ rw (two (omega arith), escape-is, e)
-      ]
+pub text-bad : (n : ℕ) (s : List ℕ) → 1 ≤ length s → get_or s 0 0 ≡ backslash → is_escape (get_or (from 1 s) 0 0) ≡ false → text_told n s ≡ None
+unfolding is_escaped
+text-bad n [] h is e = absurd (omega arith)
+text-bad n (a ∷ []) h is e = rw is
+text-bad n (a ∷ b ∷ s) h is e =
+    let own : is_escape b ≡ false = rw from-is at e in
+    rw (is, escape-is, own)

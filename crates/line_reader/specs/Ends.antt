@@ -1,5 +1,5 @@
 -- Where the parts of a line end; only the code goes this way.
-use Rattle.std.specs.Prelude.{ℕ, zero, suc, ◌+◌, cond, List, [], ◌∷◌, ltb, length, drop}
+use Rattle.std.specs.Prelude.{ℕ, zero, suc, ◌+◌, cond, List, ltb, length, drop}
 use Rattle.find.specs.Find.{until, is_any}
 use Rattle.sheet.specs.Fields.{tab}
 
@@ -15,7 +15,3 @@ next_end line end = cond (ltb end (length line)) (part_end line (end + 1)) end
 unfoldable pub end_from : List ℕ → ℕ → ℕ → ℕ
 end_from line at zero = part_end line at
 end_from line at (suc k) = next_end line (end_from line at k)
-
--- the ends of the word and of the first four fields
-abbrev pub ends_of : List ℕ → List ℕ
-ends_of line = end_from line 0 0 ∷ end_from line 0 1 ∷ end_from line 0 2 ∷ end_from line 0 3 ∷ end_from line 0 4 ∷ []

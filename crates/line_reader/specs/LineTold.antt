@@ -39,7 +39,6 @@ line_sizes tag.Unknown fs =
 line_sizes tag.Content fs = sized_told tag.Content true (text_told 0 (get_or fs 0 [])) (Some 0)
 line_sizes tag.Name fs = sized_told tag.Name (is_number (get_or fs 0 [])) (text_told 0 (get_or fs 1 [])) (Some 0)
 line_sizes tag.Pair fs = sized_told tag.Pair true (text_told 0 (get_or fs 0 [])) (text_told 0 (get_or fs 1 []))
-line_sizes tag.None fs = sized_told tag.None true (Some 0) (Some 0)
 
 -- the fields that are texts
 unfoldable pub text_fields : Tag → List (List ℕ) → List (List ℕ)
@@ -51,4 +50,3 @@ text_fields tag.PackedContents fs = []
 text_fields tag.Names fs = []
 text_fields tag.Arguments fs = []
 text_fields tag.Unknown fs = []
-text_fields tag.None fs = []

@@ -5,12 +5,12 @@
 #![tactic(auto)]
 
 mod bytes;
-mod fields;
 mod line;
 mod number;
 mod split_line;
 mod text;
+mod word;
 
-pub use fields::{field, tag_of};
 pub use line::{LineSizes, check_line};
 pub use number::read_number;
+pub use split_line::SplitLine;

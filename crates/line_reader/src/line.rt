@@ -13,7 +13,8 @@ use crate::text::text_size;
 use layout::{Refusal, check_whole};
 use table::Tag;
 
-// What a line holds: its tag, and how many bytes its bytes or texts have; 0 where there are none.
+// What a line holds: its tag, and how many bytes its bytes or texts have; 0 where there are none. Two numbers and no enum:
+// else each tag would be matched once more to take them out.
 #[derive(Clone, Copy)]
 pub struct LineSizes {
     pub tag: Tag,
@@ -22,11 +23,13 @@ pub struct LineSizes {
 }
 
 // A line after a line of the previous tag. The number is its own among the lines.
-pub fn check_line(line: &[u8], previous: Tag, number: u32) -> Result<LineSizes, Refusal>
+pub fn check_line(line: &[u8], previous: Option<Tag>, number: u32) -> Result<LineSizes, Refusal>
     ensures { result ≡ line_told (read_line (BadLine number) previous line.now) }
 {
     let line = SplitLine::new(line);
-    let tag = line.tag();
+    let Some(tag) = line.tag() else {
+        return Err(Refusal::BadLine(number));
+    };
     if !is_placed(previous, tag) {
         return Err(Refusal::BadLine(number));
     }
@@ -39,10 +42,11 @@ pub fn check_line(line: &[u8], previous: Tag, number: u32) -> Result<LineSizes, 
 }
 
 // Whether a line of a tag may stand after one of the previous tag.
-fn is_placed(previous: Tag, tag: Tag) -> bool
+#[tactic(auto, using(table::proofs::Tags::same_tags))]
+fn is_placed(previous: Option<Tag>, tag: Tag) -> bool
     ensures { result ≡ is_placed previous tag }
 {
-    !tag.same(Tag::None) & (tag.begins_section() | previous.entry_tag().same(tag))
+    tag.begins_section() | (previous.and_then(Tag::entry_tag) == Some(tag))
 }
 
 // How many fields a line of a tag has.
@@ -58,7 +62,6 @@ fn field_count(tag: Tag) -> usize
         Tag::Content => 1,
         Tag::Name => 2,
         Tag::Pair => 2,
-        Tag::None => 0,
     }
 }
 
@@ -92,7 +95,6 @@ fn measure(line: &SplitLine<'_>, tag: Tag) -> Option<LineSizes>
             (text_size(line.field(1))?, 0)
         }
         Tag::Pair => (text_size(line.field(0))?, text_size(line.field(1))?),
-        Tag::None => (0, 0),
     };
     Some(LineSizes { tag, first, second })
 }
@@ -114,6 +116,5 @@ fn check_texts(line: &SplitLine<'_>, tag: Tag) -> Result<(), Refusal>
         Tag::Names => Ok(()),
         Tag::Arguments => Ok(()),
         Tag::Unknown => Ok(()),
-        Tag::None => Ok(()),
     }
 }

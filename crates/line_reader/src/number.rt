@@ -2,9 +2,6 @@
 ghost use Rattle.std.specs.Prelude.{◌≡◌, ◌<◌};
 ghost use Rattle.line_reader.specs.Numbers.{number_told, spelt_told};
 
-// The largest number of a field.
-const LARGEST: u64 = 0xFFFF_FFFF;
-
 // The number of a field, if it is one.
 pub fn read_number(field: &[u8]) -> Option<u32>
     ensures { result ≡ number_told field.now }
@@ -19,20 +16,18 @@ pub fn read_number(field: &[u8]) -> Option<u32>
     read_digits(field)
 }
 
-// The number that digits spell. It stops at what is no digit, and where the number is too large, which more digits do
+// The number that digits spell; `parse` would take a plus before them too. It stops at what is no digit, and where the number is too large, which more digits do
 // not change.
 fn read_digits(field: &[u8]) -> Option<u32>
     ensures { result ≡ spelt_told 0 field.now }
 {
-    let mut n: u64 = 0;
+    let mut n: u32 = 0;
     for byte in field {
         if !byte.is_ascii_digit() {
             return None;
         }
-        n = 10 * n + (*byte - b'0') as u64;
-        if n > LARGEST {
-            return None;
-        }
+        let digit = u32::from(*byte - b'0');
+        n = n.checked_mul(10)?.checked_add(digit)?;
     }
-    Some(n as u32)
+    Some(n)
 }

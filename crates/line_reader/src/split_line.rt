@@ -1,38 +1,41 @@
 // A line with the places where its parts end, each tab looked for once.
-ghost use Rattle.std.specs.Prelude.{[], ◌≡◌, ◌<◌, ◌≤◌, eqb, length, get_or};
+ghost use Rattle.std.specs.Prelude.{[], ℕ, ◌≡◌, ◌<◌, ◌≤◌, eqb, length, get_or};
 ghost use Rattle.sheet.specs.Fields.{tab};
 ghost use Rattle.sheet.specs.Lines.{split, tag_of_word};
-ghost use Rattle.line_reader.specs.Ends.{ends_of};
+ghost use Rattle.line_reader.specs.Ends.{end_from};
 
-use crate::fields::{TAB, next_end, part_after, tag_of_word};
+use crate::word::tag_of_word;
 use find::find_from;
 use table::Tag;
 
 #[derive(Clone, Copy)]
 pub struct SplitLine<'a> {
     pub line: &'a [u8],
-    // Where its word ends and each of its first four fields, which no line has more of: at a tab, or at the line's end. A
-    // field that is not there ends where the part before it does.
+    // Where the word ends and each of the first four fields, which a line that is right has no more of: at a tab, or at the
+    // line's end, where a field that is not there ends too.
     ends: [usize; 5],
-    ghost ends_are: { ends ≡ ends_of line.now },
+    ghost ends_are: { (k : ℕ) → k < 5 → get_or ends k 0 ≡ end_from line.now 0 k },
 }
 
 impl<'a> SplitLine<'a> {
+    // Inlined, since a line of a few bytes costs less than to hand its ends back through memory.
+    #[inline(always)]
     pub fn new(line: &'a [u8]) -> SplitLine<'a>
         ensures { result.line.now ≡ line.now }
     {
-        let word = find_from(line, TAB, 0);
-        let first = next_end(line, word);
-        let second = next_end(line, first);
-        let third = next_end(line, second);
-        let fourth = next_end(line, third);
-        SplitLine {
-            line,
-            ends: [word, first, second, third, fourth],
+        let mut ends = [line.len(); 5];
+        let mut start = 0;
+        for end in ends.iter_mut() {
+            *end = find_from(line, b'\t', start);
+            if *end == line.len() {
+                break;
+            }
+            start = *end + 1;
         }
+        SplitLine { line, ends }
     }
 
-    pub fn tag(&self) -> Tag
+    pub fn tag(&self) -> Option<Tag>
         ensures { result ≡ tag_of_word (split tab self.now.line.now).first }
     {
         tag_of_word(&self.line[..self.ends[0]])
@@ -40,14 +43,35 @@ impl<'a> SplitLine<'a> {
 
     // The field at an index, from 0; empty where the line has fewer.
     pub fn field(&self, index: usize) -> &'a [u8]
-        requires { index < 4 }
         ensures { result.now ≡ get_or (split tab self.now.line.now).rest index [] }
     {
-        part_after(self.line, self.ends[index], self.ends[index + 1])
+        if index >= 4 {
+            return self.later_field(index);
+        }
+        let start = self.ends[index] + 1;
+        self.line.get(start..self.ends[index + 1]).unwrap_or(&[])
+    }
+
+    // The same of a field past the first four, which no line of a sheet has: it is looked for.
+    fn later_field(&self, index: usize) -> &'a [u8]
+        requires { 4 ≤ index }
+        ensures { result.now ≡ get_or (split tab self.now.line.now).rest index [] }
+    {
+        let mut end = self.ends[4];
+        for passed in 4..index {
+            if end == self.line.len() {
+                return &[];
+            }
+            end = find_from(self.line, b'\t', end + 1);
+        }
+        if end == self.line.len() {
+            return &[];
+        }
+        &self.line[end + 1..find_from(self.line, b'\t', end + 1)]
     }
 
     // Whether the line has so many fields.
-    pub fn has_fields(&self, count: usize) -> bool
+    pub(crate) fn has_fields(&self, count: usize) -> bool
         requires { count ≤ 4 }
         ensures { result ≡ eqb (length (split tab self.now.line.now).rest) count }
     {

@@ -1,37 +1,38 @@
 // A field that is a text, in which each backslash begins an escape.
-ghost use Rattle.std.specs.Prelude.{◌≡◌, ◌+◌, ◌<◌, length, get_or};
+ghost use Rattle.std.specs.Prelude.{◌≡◌, get_or};
 ghost use Rattle.sheet.specs.Fields.{is_escape};
 ghost use Rattle.line_reader.specs.Sizes.{text_told};
 
-use find::find_from;
+use find::find_any;
 
-// How many bytes a text has with its escapes resolved. An escape is passed where it stands; bytes that stand for
-// themselves are counted in runs, up to the next backslash.
+const BACKSLASH: u8 = b'\\';
+
+// How many bytes a text has with its escapes resolved. Bytes that stand for themselves are counted in runs, up to the next
+// backslash.
 pub fn text_size(field: &[u8]) -> Option<usize>
     ensures { result ≡ text_told 0 field.now }
 {
     let mut size = 0;
-    let mut at = 0;
-    while at < field.len() {
-        if field[at] == b'\\' {
-            if !is_escape(field, at) {
+    let mut rest = field;
+    while let [first, after @ ..] = rest {
+        if *first == BACKSLASH {
+            if !is_escape(after) {
                 return None;
             }
             size += 1;
-            at += 2;
+            rest = &after[1..];
         } else {
-            let end = find_from(field, b'\\', at + 1);
-            size += end - at;
-            at = end;
+            let run = find_any(rest, BACKSLASH, BACKSLASH, BACKSLASH);
+            size += run;
+            rest = &rest[run..];
         }
     }
     Some(size)
 }
 
-// Whether what follows a place is there, and may follow a backslash.
-fn is_escape(field: &[u8], at: usize) -> bool
-    requires { at < length field.now }
-    ensures { result ≡ is_escape (get_or field.now (at + 1) 0) }
+// Whether what follows a backslash is there, and may follow one.
+fn is_escape(after: &[u8]) -> bool
+    ensures { result ≡ is_escape (get_or after.now 0 0) }
 {
-    matches!(field.get(at + 1), Some(b'\\' | b't' | b'n'))
+    matches!(after.first(), Some(b'\\' | b't' | b'n'))
 }

@@ -1,6 +1,6 @@
 -- Measuring lines comes to the length of the payload that a sheet is written as, or to its refusal.
 -- Assumes nothing.
-use Rattle.std.specs.Prelude.{Err, Ok}
+use Rattle.std.specs.Prelude.{Option, Some, Err, Ok}
 use Prim.Native.Nat.{ℕ, ◌+◌}
 use mathlib.Core.Bool.{Bool, true, false}
 use lib.Dec.{eqb}
@@ -48,12 +48,12 @@ lines-measured (next ∷ rest) n m line = go (read_line (bad_line n) m.previous 
     go :
         (c : Checked Record) →
         ((m : Sizes) → measure_lines (n + 1) m next rest ≡ then (read_lines (n + 1) m.previous next rest) (λ (rs : List Record). finish (measure_records m rs))) →
-        then c (λ (r : Record). measure_lines (n + 1) (counted m r) next rest) ≡ then (then c (λ (r : Record). then (read_lines (n + 1) r.tag next rest) (λ (rs : List Record). Ok (r ∷ rs)))) all
+        then c (λ (r : Record). measure_lines (n + 1) (counted m r) next rest) ≡ then (then c (λ (r : Record). then (read_lines (n + 1) (Some r.tag) next rest) (λ (rs : List Record). Ok (r ∷ rs)))) all
     go (Err q) more = refl
     go (Ok r) more =
         more (counted m r) ∙
-        ap (λ (t : Tag). then (read_lines (n + 1) t next rest) (λ (rs : List Record). finish (measure_records (counted m r) rs))) (next-tag m r.tag (length (text 0 r)) (length (text 1 r))) ∙
-        inner r (read_lines (n + 1) r.tag next rest)
+        ap (λ (t : Option Tag). then (read_lines (n + 1) t next rest) (λ (rs : List Record). finish (measure_records (counted m r) rs))) (next-tag m r.tag (length (text 0 r)) (length (text 1 r))) ∙
+        inner r (read_lines (n + 1) (Some r.tag) next rest)
 
 -- a whole sheet
 abbrev pub measure_sheet : List ℕ → Checked ℕ

@@ -13,17 +13,15 @@ ghost use Rattle.lines.specs.Measure.{line_end};
 use layout::Refusal;
 use sizes::Sizes;
 
-const NEWLINE: u8 = 10;
-
 // Where the line at a place ends: at the next newline, or at the sheet's end.
 pub fn line_end(sheet: &[u8], at: usize) -> usize
     ensures { result ≡ line_end sheet.now at }
 {
-    find::find_from(sheet, NEWLINE, at)
+    find::find_from(sheet, b'\n', at)
 }
 
 // The bytes of the payload that a sheet would be written as: how many, or the first fault. The place moves on past each
-// newline that is found.
+// newline that is found: `split` would look at one byte after the other, and `find_from` tests a block at once.
 pub fn measure(sheet: &[u8]) -> Result<u32, Refusal>
     ensures { result ≡ sized (from_sheet sheet.now) }
 {

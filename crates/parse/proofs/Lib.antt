@@ -1,5 +1,4 @@
 pub mod Count
-pub mod EntryCount
-pub mod PairCount
+pub mod RunLaws
 pub mod SectionCount
 pub mod SectionTurns

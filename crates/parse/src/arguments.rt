@@ -1,10 +1,11 @@
 // Argument sections: names and values, each ended by a NUL.
-ghost use Rattle.std.specs.Prelude.{◌≡◌, ℕ, ◌+◌, ◌≤◌, ◌<◌, length, get_or};
-ghost use Rattle.format.specs.Encoding.{limit};
+ghost use Rattle.std.specs.Prelude.{◌≡◌, ℕ, ◌+◌, ◌≤◌, ◌<◌, get_or};
 ghost use Rattle.format.specs.Parse.{pair_text, pair, pairs, parse_arguments, after_pair};
 ghost use Rattle.parse.specs.Outcome.{maybe_text, place_of, counted};
 
 use crate::framing::check_framed;
+use crate::part::{Part, SectionPart};
+use crate::run::check_run;
 use layout::{Refusal, SourceInfoSectionType};
 use wire::TextLength;
 
@@ -16,92 +17,74 @@ const HEADERS: u32 = START as u32;
 const NEAR: usize = 64;
 
 // The end of the run, from a place on, of bytes that are ASCII and no NUL; in a long run a place inside.
-fn plain_end(payload: &[u8], at: usize, end: usize) -> usize
-    requires { (at ≤ end) × (end ≤ length payload.now) }
-    ensures lower_bound { (at ≤ result) × (result ≤ end) }
-    ensures by_index { (k : ℕ) → k < result → at ≤ k → (0 < get_or payload.now k 0) × (get_or payload.now k 0 < 0x80) }
+fn plain_end(part: Part, at: usize) -> usize
+    requires { at ≤ part.end }
+    ensures bounds { (at ≤ result) × (result ≤ part.entry.end) }
+    ensures by_index { (k : ℕ) → k < result → at ≤ k → (0 < get_or part.entry.payload.now k 0) × (get_or part.entry.payload.now k 0 < 0x80) }
 {
-    let near = if end - at < NEAR { end } else { at + NEAR };
-    for i in at..near {
-        let byte = payload[i];
-        if byte == 0 || byte >= 0x80 {
-            return i;
-        }
-    }
-    near
+    let near = part.end.min(at + NEAR);
+    let run = &part.payload[at..near];
+    let plain = run.iter().position(|byte| *byte == 0 || *byte >= 0x80);
+    at + plain.unwrap_or(run.len())
 }
 
 // The text from a place on, which ends at the first NUL before `end`, whatever its length and characters.
 // It is gone through twice, in blocks.
 #[tactic(auto, unfolding(format::specs::Parse::pair_text, layout::specs::Checked::check, layout::specs::Checked::then))]
-fn check_any_pair_text(payload: &[u8], at: usize, end: usize) -> Result<TextLength, Refusal>
-    requires at_le_end { (at ≤ end) × (end ≤ length payload.now) }
-    requires payload_len_bound { length payload.now ≤ limit }
-    ensures { result ≡ maybe_text (pair_text payload.now at end) }
+fn check_any_pair_text(part: Part, at: usize) -> Result<TextLength, Refusal>
+    requires { at ≤ part.end }
+    ensures { result ≡ maybe_text (pair_text part.entry.payload.now at part.entry.end) }
 {
-    let count = find::find_nul(&payload[at..end]);
-    if count == end - at {
+    let Some(count) = find::find_nul(&part.payload[at..part.end]) else {
         return Err(Refusal::OpenText);
-    }
+    };
     let stop = at + count;
-    validate::validate(&payload[at..stop])?;
+    validate::validate(&part.payload[at..stop])?;
     Ok(TextLength(count as u32))
 }
 
 // The same. Most texts of arguments are short and ASCII, or empty: the NUL of such a one is found, and its
 // bytes are seen to be well formed, in one go and without a call.
 #[tactic(auto, unfolding(format::specs::Parse::pair_text, layout::specs::Checked::check, layout::specs::Checked::then))]
-fn check_pair_text(payload: &[u8], at: usize, end: usize) -> Result<TextLength, Refusal>
-    requires at_le_end { (at ≤ end) × (end ≤ length payload.now) }
-    requires payload_len_bound { length payload.now ≤ limit }
-    ensures { result ≡ maybe_text (pair_text payload.now at end) }
+fn check_pair_text(part: Part, at: usize) -> Result<TextLength, Refusal>
+    requires { at ≤ part.end }
+    ensures { result ≡ maybe_text (pair_text part.entry.payload.now at part.entry.end) }
 {
-    let stop = plain_end(payload, at, end);
-    if stop < end {
-        if payload[stop] == 0 {
+    let stop = plain_end(part, at);
+    if stop < part.end {
+        if part.payload[stop] == 0 {
             return Ok(TextLength((stop - at) as u32));
         }
     }
-    check_any_pair_text(payload, at, end)
+    check_any_pair_text(part, at)
 }
 
-// The place after the pair at a place, both of whose texts end before `end`.
+// The place after the pair at a place, both of whose texts end before the part's end.
 #[tactic(auto, unfolding(format::specs::Parse::pair, layout::specs::Checked::then))]
-fn check_pair(payload: &[u8], at: usize, end: usize) -> Result<usize, Refusal>
-    requires at_le_end { (at ≤ end) × (end ≤ length payload.now) }
-    requires payload_len_bound { length payload.now ≤ limit }
-    ensures { result ≡ place_of after_pair (pair payload.now at end) }
+fn check_pair(part: Part, at: usize) -> Result<usize, Refusal>
+    requires { at ≤ part.end }
+    ensures { result ≡ place_of after_pair (pair part.entry.payload.now at part.entry.end) }
 {
-    let name = check_pair_text(payload, at, end)?;
+    let name = check_pair_text(part, at)?;
     let start = at + name.wire_size().0;
-    let value = check_pair_text(payload, start, end)?;
+    let value = check_pair_text(part, start)?;
     Ok(start + value.wire_size().0)
 }
 
-// As many pairs as the count says, from `start` on, up to `end`.
-fn check_pairs(payload: &[u8], count: u32, start: usize, end: usize) -> Result<u32, Refusal>
-    requires start_le_end { (start ≤ end) × (end ≤ length payload.now) }
-    requires payload_len_bound { length payload.now ≤ limit }
-    ensures { result ≡ counted (pairs count payload.now start end) }
+// As many pairs as the count says, from `start` on, up to the part's end.
+fn check_pairs(part: Part, count: u32, start: usize) -> Result<u32, Refusal>
+    requires { start ≤ part.end }
+    ensures { result ≡ counted (pairs count part.entry.payload.now start part.entry.end) }
 {
-    let mut at = start;
-    for done in 0..count {
-        at = check_pair(payload, at, end)?;
-    }
-    if at == end {
-        Ok(count)
-    } else {
-        Err(Refusal::Leftover)
-    }
+    check_run(|at| check_pair(part, at), count, start, part.end)
 }
 
-// The arguments section of a size at a place.
+// An arguments section.
 #[tactic(auto, unfolding(format::specs::Parse::parse_arguments, layout::specs::Checked::check, layout::specs::Checked::then))]
-pub fn parse_arguments(payload: &[u8], at: usize, size: usize) -> Result<u32, Refusal>
-    requires size_in_bounds { at + size ≤ length payload.now }
-    requires payload_len_bound { length payload.now ≤ limit }
-    ensures { result ≡ counted (parse_arguments payload.now at size) }
+pub fn parse_arguments(section: SectionPart) -> Result<u32, Refusal>
+    ensures { result ≡ counted (parse_arguments section.entry.payload.now section.entry.at section.entry.size) }
 {
+    let SectionPart { payload, at, size } = section;
     if size < START {
         return Err(Refusal::Short);
     }
@@ -109,9 +92,10 @@ pub fn parse_arguments(payload: &[u8], at: usize, size: usize) -> Result<u32, Re
         return Err(Refusal::Flag);
     }
     let bytes = wire::read_u32(payload, at + 12);
-    check_framed(payload, at, size, HEADERS, bytes)?;
+    check_framed(section, HEADERS, bytes)?;
     let start = at + START;
+    let end = start + bytes as usize;
     let count = wire::read_u32(payload, at + 16);
-    let pairs = check_pairs(payload, count, start, start + bytes as usize)?;
+    let pairs = check_pairs(Part { payload, end }, count, start)?;
     Ok(1 + pairs)
 }

@@ -1,12 +1,12 @@
 // Contents sections, plain and packed.
-ghost use Rattle.std.specs.Prelude.{◌≡◌, ◌+◌, ◌≤◌, length};
-ghost use Rattle.format.specs.Encoding.{limit};
+ghost use Rattle.std.specs.Prelude.{◌≡◌, ◌+◌, ◌≤◌};
 ghost use Rattle.wire.specs.Number.{u32_at};
 ghost use Rattle.format.specs.Parse.{parse_stored, parse_contents};
 ghost use Rattle.parse.specs.Outcome.{counted};
 
 use crate::entries::check_entries;
 use crate::framing::check_framed;
+use crate::part::{Part, SectionPart};
 use layout::{Refusal, SourceCompression, SourceInfoSectionType};
 
 const START: usize = SourceInfoSectionType::CONTENTS_START;
@@ -18,16 +18,15 @@ const ENTRY_HEADER: u32 = SourceInfoSectionType::CONTENT_ENTRY_HEADER_SIZE as u3
 // What a contents section at a place stores, by its compression. A packed stream is not looked into.
 #[tactic(auto, unfolding(format::specs::Parse::parse_stored, layout::specs::Checked::check, layout::specs::Checked::then))]
 fn check_stored(
-    payload: &[u8],
+    section: SectionPart,
     compression: SourceCompression,
-    at: usize,
     bytes: u32,
 ) -> Result<u32, Refusal>
-    requires bytes_value { bytes ≡ u32_at payload.now (at + 16) }
-    requires bytes_in_bounds { at + 28 + bytes ≤ length payload.now }
-    requires payload_len_bound { length payload.now ≤ limit }
-    ensures { result ≡ counted (parse_stored compression payload.now at) }
+    requires bytes_value { bytes ≡ u32_at section.payload.now (section.at + 16) }
+    requires bytes_in_bounds { 28 + bytes ≤ section.size }
+    ensures { result ≡ counted (parse_stored compression section.entry.payload.now section.entry.at) }
 {
+    let SectionPart { payload, at, .. } = section;
     if let SourceCompression::Zlib = compression {
         return Ok(1);
     }
@@ -35,18 +34,18 @@ fn check_stored(
         return Err(Refusal::Unequal);
     }
     let start = at + START;
+    let end = start + bytes as usize;
     let count = wire::read_u32(payload, at + 24);
-    let entries = check_entries(payload, ENTRY_HEADER, count, start, start + bytes as usize)?;
+    let entries = check_entries(Part { payload, end }, ENTRY_HEADER, count, start)?;
     Ok(1 + entries)
 }
 
-// The contents section of a size at a place.
+// A contents section.
 #[tactic(auto, unfolding(format::specs::Parse::parse_contents, layout::specs::Checked::check, layout::specs::Checked::then))]
-pub fn parse_contents(payload: &[u8], at: usize, size: usize) -> Result<u32, Refusal>
-    requires size_in_bounds { at + size ≤ length payload.now }
-    requires payload_len_bound { length payload.now ≤ limit }
-    ensures { result ≡ counted (parse_contents payload.now at size) }
+pub fn parse_contents(section: SectionPart) -> Result<u32, Refusal>
+    ensures { result ≡ counted (parse_contents section.entry.payload.now section.entry.at section.entry.size) }
 {
+    let SectionPart { payload, at, size } = section;
     if size < START {
         return Err(Refusal::Short);
     }
@@ -58,6 +57,6 @@ pub fn parse_contents(payload: &[u8], at: usize, size: usize) -> Result<u32, Ref
         return Err(Refusal::Compression);
     };
     let bytes = wire::read_u32(payload, at + 16);
-    check_framed(payload, at, size, HEADERS, bytes)?;
-    check_stored(payload, compression, at, bytes)
+    check_framed(section, HEADERS, bytes)?;
+    check_stored(section, compression, bytes)
 }

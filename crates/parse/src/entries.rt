@@ -4,6 +4,8 @@ ghost use Rattle.wire.specs.Length.{wire_size};
 ghost use Rattle.format.specs.Parse.{terminated_text, entry, entries, content_row_at, after_entry};
 ghost use Rattle.parse.specs.Outcome.{place_of, counted};
 
+use crate::part::Part;
+use crate::run::check_run;
 use layout::{Refusal, check_text};
 use wire::{TextLength, WireSize};
 
@@ -27,12 +29,13 @@ fn terminated_utf8(payload: &[u8], at: usize, text: TextLength, next: usize) -> 
     }
 }
 
-// The place after the entry at a place, which ends before `end`.
+// The place after the entry at a place, which ends before the part's end.
 #[tactic(auto, unfolding(format::specs::Parse::entry, layout::specs::Checked::check, layout::specs::Checked::then, wire::specs::Padding::aligned))]
-fn check_entry(payload: &[u8], header: u32, at: usize, end: usize) -> Result<usize, Refusal>
-    requires { (at ≤ end) × (end ≤ length payload.now) }
-    ensures { result ≡ place_of (after_entry header at) (entry header payload.now at end) }
+fn check_entry(part: Part, header: u32, at: usize) -> Result<usize, Refusal>
+    requires { at ≤ part.end }
+    ensures { result ≡ place_of (after_entry header at) (entry header part.entry.payload.now at part.entry.end) }
 {
+    let Part { payload, end } = part;
     let left = end - at;
     if left < header as usize {
         return Err(Refusal::Short);
@@ -55,24 +58,10 @@ fn check_entry(payload: &[u8], header: u32, at: usize, end: usize) -> Result<usi
     Ok(at + aligned)
 }
 
-// As many entries as the count says, from `start` on, up to `end`.
-pub fn check_entries(
-    payload: &[u8],
-    header: u32,
-    count: u32,
-    start: usize,
-    end: usize,
-) -> Result<u32, Refusal>
-    requires { (start ≤ end) × (end ≤ length payload.now) }
-    ensures { result ≡ counted (entries header content_row_at count payload.now start end) }
+// As many entries as the count says, from `start` on, up to the part's end.
+pub fn check_entries(part: Part, header: u32, count: u32, start: usize) -> Result<u32, Refusal>
+    requires { start ≤ part.end }
+    ensures { result ≡ counted (entries header content_row_at count part.entry.payload.now start part.entry.end) }
 {
-    let mut at = start;
-    for done in 0..count {
-        at = check_entry(payload, header, at, end)?;
-    }
-    if at == end {
-        Ok(count)
-    } else {
-        Err(Refusal::Leftover)
-    }
+    check_run(|at| check_entry(part, header, at), count, start, part.end)
 }

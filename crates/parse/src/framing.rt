@@ -1,21 +1,16 @@
 // How a section's body is framed: its size, and the padding around its stored bytes.
-ghost use Rattle.std.specs.Prelude.{◌≡◌, ◌+◌, ◌≤◌, length};
+ghost use Rattle.std.specs.Prelude.{◌≡◌};
 ghost use Rattle.format.specs.Parse.{framed};
 
+use crate::part::SectionPart;
 use layout::Refusal;
 
 // Whether a section's size is that of its headers and stored bytes, padded, and the padding is zero.
 #[tactic(auto, unfolding(format::specs::Parse::framed, layout::specs::Checked::check, wire::specs::Padding::aligned))]
-pub fn check_framed(
-    payload: &[u8],
-    at: usize,
-    size: usize,
-    headers: u32,
-    bytes: u32,
-) -> Result<(), Refusal>
-    requires { at + size ≤ length payload.now }
-    ensures { result ≡ framed payload.now at size headers bytes }
+pub fn check_framed(section: SectionPart, headers: u32, bytes: u32) -> Result<(), Refusal>
+    ensures { result ≡ framed section.entry.payload.now section.entry.at section.entry.size headers bytes }
 {
+    let SectionPart { payload, at, size } = section;
     if size != wire::align4(headers, bytes) {
         return Err(Refusal::BodySize);
     }

@@ -10,6 +10,8 @@ mod contents;
 mod entries;
 mod framing;
 mod names;
+mod part;
+mod run;
 mod source_info;
 
 pub use source_info::parse_srci;

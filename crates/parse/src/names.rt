@@ -1,11 +1,11 @@
 // Name sections.
-ghost use Rattle.std.specs.Prelude.{◌≡◌, ◌+◌, ◌≤◌, length};
-ghost use Rattle.format.specs.Encoding.{limit};
+ghost use Rattle.std.specs.Prelude.{◌≡◌};
 ghost use Rattle.format.specs.Parse.{parse_names};
 ghost use Rattle.parse.specs.Outcome.{counted};
 
 use crate::entries::check_entries;
 use crate::framing::check_framed;
+use crate::part::{Part, SectionPart};
 use layout::{Refusal, SourceInfoSectionType};
 
 const START: usize = SourceInfoSectionType::NAMES_START;
@@ -14,13 +14,12 @@ const HEADERS: u32 = START as u32;
 
 const ENTRY_HEADER: u32 = SourceInfoSectionType::NAME_ENTRY_HEADER_SIZE as u32;
 
-// The names section of a size at a place.
+// A names section.
 #[tactic(auto, unfolding(format::specs::Parse::parse_names, layout::specs::Checked::check, layout::specs::Checked::then))]
-pub fn parse_names(payload: &[u8], at: usize, size: usize) -> Result<u32, Refusal>
-    requires size_in_bounds { at + size ≤ length payload.now }
-    requires payload_len_bound { length payload.now ≤ limit }
-    ensures { result ≡ counted (parse_names payload.now at size) }
+pub fn parse_names(section: SectionPart) -> Result<u32, Refusal>
+    ensures { result ≡ counted (parse_names section.entry.payload.now section.entry.at section.entry.size) }
 {
+    let SectionPart { payload, at, size } = section;
     if size < START {
         return Err(Refusal::Short);
     }
@@ -28,9 +27,10 @@ pub fn parse_names(payload: &[u8], at: usize, size: usize) -> Result<u32, Refusa
         return Err(Refusal::Flag);
     }
     let bytes = wire::read_u16(payload, at + 16);
-    check_framed(payload, at, size, HEADERS, bytes as u32)?;
+    check_framed(section, HEADERS, bytes as u32)?;
     let start = at + START;
+    let end = start + bytes as usize;
     let count = wire::read_u32(payload, at + 12);
-    let entries = check_entries(payload, ENTRY_HEADER, count, start, start + bytes as usize)?;
+    let entries = check_entries(Part { payload, end }, ENTRY_HEADER, count, start)?;
     Ok(1 + entries)
 }

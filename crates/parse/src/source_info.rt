@@ -7,30 +7,26 @@ ghost use Rattle.parse.specs.Outcome.{counted};
 use crate::arguments::parse_arguments;
 use crate::contents::parse_contents;
 use crate::names::parse_names;
+use crate::part::SectionPart;
 use layout::{PAYLOAD_LIMIT, Refusal, SourceInfoSectionType};
 use section_reader::SectionReader;
 
-// The section of a size at a place, by the kind that its header says.
+// A section, by the kind that its header says.
 #[tactic(auto, unfolding(format::specs::Parse::parse_section))]
-fn parse_section(
-    payload: &[u8],
-    kind: SourceInfoSectionType,
-    at: usize,
-    size: usize,
-) -> Result<u32, Refusal>
-    requires size_in_bounds { at + size ≤ length payload.now }
-    requires payload_len_bound { length payload.now ≤ limit }
-    ensures { result ≡ counted (parse_section kind payload.now at size) }
+fn parse_section(kind: SourceInfoSectionType, section: SectionPart) -> Result<u32, Refusal>
+    ensures { result ≡ counted (parse_section kind section.entry.payload.now section.entry.at section.entry.size) }
 {
     match kind {
-        SourceInfoSectionType::SourceContents => parse_contents(payload, at, size),
-        SourceInfoSectionType::SourceNames => parse_names(payload, at, size),
-        SourceInfoSectionType::Arguments => parse_arguments(payload, at, size),
+        SourceInfoSectionType::SourceContents => parse_contents(section),
+        SourceInfoSectionType::SourceNames => parse_names(section),
+        SourceInfoSectionType::Arguments => parse_arguments(section),
         SourceInfoSectionType::Unknown(_) => Ok(1),
     }
 }
 
-// As many sections as the count says, up to the payload's end. One reader goes through them.
+// As many sections as the count says, up to the payload's end. One reader goes through them. Inlined, so that a place in a
+// payload whose length was tested needs no test of its own.
+#[inline(always)]
 fn parse_sections(payload: &[u8], count: u16) -> Result<u32, Refusal>
     requires in_bounds { 8 ≤ length payload.now }
     requires payload_len_bound { length payload.now ≤ limit }
@@ -40,7 +36,12 @@ fn parse_sections(payload: &[u8], count: u16) -> Result<u32, Refusal>
     let mut rows: u32 = 0;
     for done in 0..count {
         let section = reader.next()?;
-        rows += parse_section(payload, section.kind, section.at, section.size)?;
+        let part = SectionPart {
+            payload,
+            at: section.at,
+            size: section.size,
+        };
+        rows += parse_section(section.kind, part)?;
     }
     if reader.has_left() {
         Err(Refusal::Leftover)

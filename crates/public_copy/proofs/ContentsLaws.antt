@@ -1,28 +1,21 @@
 -- Contents with nothing in them: their headers, and entries of 16 bytes.
 -- Assumes nothing.
-use Rattle.std.specs.Prelude.{Ok}
 use Prim.Native.Nat.{ℕ, zero, suc, ◌+◌, ◌*◌, ◌-◌, ◌%◌, ◌≤◌, ◌<◌}
 use mathlib.Core.List.{List, [], ◌++◌, flat_map, append_assoc, append-nil}
 use mathlib.Core.Path.{◌≡◌, refl, sym, ap, ap₂, ◌∙◌}
 use native.Mathlib.Omega.{arith}
 use lib.ListN.{length, replicate, length-append, length-replicate}
 use lib.Seq.{sets}
-use Rattle.wire.specs.Length.{wire_size}
-use Rattle.wire.specs.Number.{u32_at, bytes_of}
+use Rattle.wire.specs.Number.{bytes_of}
 use Rattle.wire.specs.Padding.{padding, aligned}
 use Rattle.wire.proofs.NumberLaws.{length-bytes_of, number-stored, fields-stored}
-use Rattle.wire.proofs.PaddingLaws.{aligned-by-arithmetic, aligned-of-multiple, padding-by-arithmetic}
+use Rattle.wire.proofs.PaddingLaws.{aligned-of-multiple, padding-by-arithmetic}
 use Rattle.layout.specs.Kinds.{kind_number, compression_number}
 use Rattle.layout.specs.declared.compression.SourceCompression.{SourceCompression}
 use Rattle.layout.specs.declared.compression.SourceCompression.TheVariants.{None, Zlib}
 use Rattle.layout.specs.declared.section_type.SourceInfoSectionType.TheVariants.{SourceContents}
-use Rattle.table.specs.declared.row.Row.{Row}
 use Rattle.format.specs.CopyWalk.{contents_copy}
 use Rattle.format.specs.Encoding.{u16, u32, padded, content_entry, stored_bytes, body_header, kind_of, encode_section}
-use Rattle.format.specs.Parse.{entries, content_row_at, parse_stored, parse_contents}
-use Rattle.format.specs.Walk.{compression_at}
-use Rattle.format.proofs.EntryLaws.{entry-good, entries_none, entries-first}
-use Rattle.format.proofs.SectionLaws.{contents-good, plain-good}
 use Rattle.format.proofs.Walking.{one_fewer, none_left}
 use Rattle.public_copy.specs.Header.{contents_start}
 
@@ -130,24 +123,3 @@ pub packed-long : (count : ℕ) → length (contents_copy Zlib count) ≡ 28
 packed-long count = ap length (packed-copy count) ∙ length-headers Zlib 0 count
 
 -- ---- they are no longer than the contents that they stand for
-
-entries-least : (p : List ℕ) (end count at : ℕ) (rs : List Row) → entries 12 content_row_at count p at end ≡ Ok rs → at + 16 * count ≤ end
-entries-least p end zero at rs e = omega (arith, (entries_none 12 p end content_row_at at rs e).0)
-entries-least p end (suc count) at rs e =
-    let (n, rest, first, others, same) = entries-first 12 p end content_row_at count at rs e in
-    let told = entry-good 12 p at end n first in
-    omega (arith, aligned-by-arithmetic (12 + wire_size n), entries-least p end count _ rest others)
-
-pub contents-least :
-    (p : List ℕ) (at size : ℕ) (rs : List Row) →
-    parse_contents p at size ≡ Ok rs →
-    length (contents_copy (compression_at p at) (u32_at p (at + 24))) ≤ size
-contents-least p at size rs e =
-    let (framed, held, flags, known) = contents-good p at size rs e in
-    go (compression_at p at) held (omega (arith, framed.within))
-  where
-    go : (c : SourceCompression) → parse_stored c p at ≡ Ok rs → 28 + u32_at p (at + 16) ≤ size → length (contents_copy c (u32_at p (at + 24))) ≤ size
-    go None f h =
-        let plain = plain-good p at rs f in
-        omega (arith, plain-long (u32_at p (at + 24)), entries-least p _ (u32_at p (at + 24)) (at + 28) plain.rest plain.found)
-    go Zlib f h = omega (arith, packed-long (u32_at p (at + 24)))

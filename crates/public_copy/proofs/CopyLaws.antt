@@ -1,19 +1,33 @@
 -- The copy section by section: what it has for the next section, and for those after it.
 -- Assumes nothing.
-use Prim.Native.Nat.{ℕ, ◌+◌}
+use Rattle.std.specs.Prelude.{cond, is_ok, true, Ok}
+use Prim.Native.Nat.{ℕ, ◌+◌, ◌≤◌}
 use mathlib.Core.List.{List, [], ◌∷◌, flat_map, append-nil}
-use mathlib.Core.Path.{◌≡◌, refl}
+use mathlib.Core.Path.{◌≡◌, refl, sym, ap, ◌∙◌}
 use native.Mathlib.Omega.{arith}
 use lib.ListN.{length, length-append}
+use Rattle.wire.specs.Number.{u16_at}
 use Rattle.wire.proofs.NumberLaws.{length-bytes_of}
+use Rattle.layout.specs.Checked.{Checked}
+use Rattle.layout.proofs.Checked.{is-good}
 use Rattle.layout.specs.Kinds.{known}
 use Rattle.layout.specs.declared.section_type.SourceInfoSectionType.{SourceInfoSectionType}
 use Rattle.layout.specs.declared.section_type.SourceInfoSectionType.TheVariants.{SourceContents, SourceNames, Arguments, Unknown}
-use Rattle.format.specs.CopyWalk.{section_copy, copy_of}
-use Rattle.public_copy.specs.Joined.{joined}
+use Rattle.format.specs.CopyWalk.{section_copy, copy_of, copy_at, copy}
+use Rattle.format.specs.Encoding.{limit}
+use Rattle.format.specs.Parse.{parse}
+use Rattle.format.specs.Read.{accepted}
+use Rattle.format.specs.Walk.{places_from, places}
+use Rattle.format.specs.WellFormed.{Bytes}
+use Rattle.format.proofs.Measured.{copy-by-walk}
+use Rattle.format.proofs.Secrecy.{copy-is-public}
+use Rattle.format.proofs.SectionLaws.{parse-good}
+use Rattle.section_reader.proofs.Accepted.{made-walked}
+use Rattle.section_reader.specs.Sections.{sections_from, sections}
+use Rattle.public_copy.specs.Joined.{joined, copied}
 
 -- a kind has a section where it is known
-pub copy-known : (p : List ℕ) (kind : SourceInfoSectionType) (at : ℕ) → length (section_copy p kind at) ≡ known kind
+pub copy-known : (p : List ℕ) (kind : SourceInfoSectionType) (at : ℕ) → length (section_copy p kind at) ≡ cond (known kind) 1 0
 unfolding section_copy
 copy-known p SourceContents at = refl
 copy-known p SourceNames at = refl
@@ -29,3 +43,20 @@ joined-one section = append-nil section
 pub copy-long : (sections : List (List ℕ)) → length (copy_of sections) ≡ 8 + length (joined sections)
 unfolding copy_of
 copy-long sections = simp (length-append, length-bytes_of) (omega arith)
+
+-- section by section it is the copy of the walk
+pub copied-all : (p : List ℕ) (count at : ℕ) → flat_map copied (sections_from p count at) ≡ joined (flat_map (copy_at p) (places_from p count at))
+copied-all p count at = made-walked p section_copy (λ (s : List ℕ). s) count at
+
+is-one : (a b : List ℕ) → ◌≡◌ {A = Checked (List ℕ)} (Ok a) (Ok b) → a ≡ b
+is-one a b e = cc
+
+-- it is within the limit, since it is not longer than the payload
+pub copied-within : (p : List ℕ) → Bytes p → is_ok (parse p) ≡ true → 8 + length (flat_map copied (sections p)) ≤ limit
+unfolding accepted copy places
+copied-within p bytes good =
+    let (rows, found) = is-good (parse p) good in
+    let (c, made, accepted, facts, again, short) = copy-is-public p (bytes, good) in
+    let same : copy p ≡ c = is-one _ _ (sym (copy-by-walk.finds p rows bytes found) ∙ made) in
+    let long = copy-long (flat_map (copy_at p) (places_from p (u16_at p 6) 8)) in
+    omega (arith, (parse-good p rows found).0, short, ap length same, long, ap length (copied-all p (u16_at p 6) 8))

@@ -1,9 +1,15 @@
--- What the second pass does to a table: it stores rows one after the other.
+-- What the second pass does to a table: it stores rows one after the other, those of one section after those of another.
 use Rattle.std.specs.Prelude.{ℕ, ◌+◌, List, [], ◌∷◌}
 use Rattle.table.specs.Rows.{store_row}
 use Rattle.table.specs.declared.row.Row.{Row}
+use Rattle.format.specs.Walk.{walk_section}
+use Rattle.section_reader.specs.Sections.{Found}
 
 -- rows stored in a table from an index on
 unfoldable pub store_rows : List ℕ → ℕ → List Row → List ℕ
 store_rows table index [] = table
 store_rows table index (r ∷ rows) = store_rows (store_row table index r) (index + 1) rows
+
+-- the rows of a section
+abbrev pub rows_of : Found → List Row
+rows_of s = walk_section s.bytes s.kind s.at

@@ -13,6 +13,7 @@ ghost use Rattle.std.specs.Prelude.{◌≡◌, length};
 ghost use Rattle.format.specs.Read.{read_answer, read_table};
 
 use layout::{Answer, Refusal};
+use section_reader::Payload;
 use table::Row;
 
 // Reads a payload into the rows of a lent table, whole, or refuses it and leaves the table as it was.
@@ -24,6 +25,7 @@ pub fn read(payload: &[u8], rows: &mut [u32]) -> Answer
     if (rows.len() / Row::WIDTH) < count as usize {
         return Err(Refusal::NoRows(count));
     }
-    fill::fill_srci(payload, rows);
+    let checked = Payload { bytes: payload };
+    fill::fill_srci(checked, rows);
     Ok(count)
 }

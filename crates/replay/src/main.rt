@@ -36,7 +36,7 @@
 // sheets: 120 calls worked out by that model.
 #![tactic(auto)]
 
-ghost use Rattle.std.specs.Prelude.{◌≡◌, ◌≤◌, length};
+ghost use Rattle.std.specs.Prelude.{◌≡◌, ◌≤◌, length, IfSome};
 
 use layout::{Answer, answer_number, answer_second};
 use std::io::Write;
@@ -66,13 +66,10 @@ fn digit(byte: u8) -> u8
     }
 }
 
-// The place of the first byte of a value from a place on, or the length where there is none.
-fn find(text: &[u8], start: usize, byte: u8) -> usize
-    requires { start ≤ length text.now }
-    ensures { (start ≤ result) × (result ≤ length text.now) }
-{
-    let rest = &text[start..];
-    start + rest.iter().position(|b| *b == byte).unwrap_or(rest.len())
+// What stands before the first space, and what stands after it; None where there is none.
+fn split_word(text: &[u8]) -> Option<(&[u8], &[u8])> {
+    let space = text.iter().position(|byte| *byte == b' ')?;
+    Some((&text[..space], &text[space + 1..]))
 }
 
 // The number that decimal digits spell; no more of them are looked at once it has ten.
@@ -88,11 +85,11 @@ fn number(text: &[u8]) -> usize {
 }
 
 // Puts the numbers that stand between commas at the start of out, as far as both go, and answers how many
-// they are.
+// they are, which is known after the last comma alone.
 fn decode_numbers(text: &[u8], out: &mut [u32]) -> usize
     ensures { result ≤ length out.new }
 {
-    if check::same(text, b"-") {
+    if text == b"-".as_slice() {
         return 0;
     }
     let mut count = 0;
@@ -156,190 +153,106 @@ fn stored(answer: Answer, most: usize) -> usize
     }
 }
 
-// The two numbers of an answer, each with a space after it.
-fn print_answer<W: Write>(out: &mut W, answer: Answer) -> io::Result<()> {
+// The two numbers of an answer, and how many items of the lent ones are left as they were.
+fn print_answer<W: Write>(out: &mut W, answer: Answer, left: usize) -> io::Result<()> {
     let number = answer_number(answer);
     let second = answer_second(answer);
-    write!(out, "{number} {second} ")
+    write!(out, "{number} {second} {left}")
 }
 
-fn print_table<W: Write>(out: &mut W, table: &[u32; NUMBERS], stored: usize) -> io::Result<()>
-    requires { stored ≤ 128 }
-{
-    let numbers = &table[..];
-    let left = untouched(&numbers[stored..], UNTOUCHED);
-    write!(out, "{left}")?;
-    print_numbers(out, &numbers[..stored])?;
+// The answer of a call that was lent the first bytes of an output, and the bytes that it stored.
+fn print_made<W: Write>(out: &mut W, answer: Answer, output: &[u8; BYTES]) -> io::Result<()> {
+    let (bytes, rest) = output.split_at(stored(answer, BYTES));
+    print_answer(out, answer, untouched(rest, UNTOUCHED_BYTE))?;
+    out.write_all(b" ")?;
+    print_bytes(out, bytes)?;
     out.write_all(b"\n")
 }
 
-fn print_output<W: Write>(out: &mut W, output: &[u8; BYTES], stored: usize) -> io::Result<()>
-    requires { stored ≤ 512 }
+// How many items a call is lent, at most so many, and what else it is given.
+fn split_lent(fields: &[u8], most: usize) -> Option<(usize, &[u8])>
+    ensures { IfSome result (λ r. r.0 ≤ most) }
 {
-    let bytes = &output[..];
-    let left = untouched(&bytes[stored..], UNTOUCHED_BYTE);
-    write!(out, "{left} ")?;
-    print_bytes(out, &bytes[..stored])?;
-    out.write_all(b"\n")
+    let (digits, rest) = split_word(fields)?;
+    let lent = number(digits);
+    (lent <= most).then_some((lent, rest))
 }
 
-fn replay_read<W: Write>(out: &mut W, payload: &[u8], lent: usize) -> io::Result<()>
-    requires { lent ≤ 128 }
-{
+// A call of reading, as data/calls.txt has it. Anything else prints nothing.
+fn replay_read<W: Write>(out: &mut W, fields: &[u8]) -> io::Result<()> {
+    let Some((lent, digits)) = split_lent(fields, NUMBERS) else {
+        return Ok(());
+    };
+    let mut payload = [0u8; BUFFER];
+    let count = decode(digits, &mut payload);
     let mut table = [UNTOUCHED; NUMBERS];
-    let answer = read::read(payload, &mut table[..lent]);
-    print_answer(out, answer)?;
-    print_table(
-        out,
-        &table,
-        stored(answer, NUMBERS / Row::WIDTH) * Row::WIDTH,
-    )
+    let answer = read::read(&payload[..count], &mut table[..lent]);
+    let (numbers, rest) = table.split_at(stored(answer, NUMBERS / Row::WIDTH) * Row::WIDTH);
+    print_answer(out, answer, untouched(rest, UNTOUCHED))?;
+    print_numbers(out, numbers)?;
+    out.write_all(b"\n")
 }
 
-fn replay_write<'a, W: Write>(
-    out: &mut W,
-    payload: &'a [u8],
-    edit: &'a [u8],
-    rows: &[u32],
-    lent: usize,
-) -> io::Result<()>
-    requires { lent ≤ 512 }
-{
-    let mut output = [UNTOUCHED_BYTE; BYTES];
-    let answer = write::write(payload, edit, rows, &mut output[..lent]);
-    print_answer(out, answer)?;
-    print_output(out, &output, stored(answer, BYTES))
-}
-
-// A job that takes an input, which is a payload or a sheet, and an output.
-fn replay_made<W: Write, F: Fn(&[u8], &mut [u8]) -> Answer>(
-    out: &mut W,
-    make: F,
-    input: &[u8],
-    lent: usize,
-) -> io::Result<()>
-    requires callable { F.IsAlwaysCallable make }
-    requires room { lent ≤ 512 }
-{
-    let mut output = [UNTOUCHED_BYTE; BYTES];
-    let answer = make(input, &mut output[..lent]);
-    print_answer(out, answer)?;
-    print_output(out, &output, stored(answer, BYTES))
-}
-
-// What a call of reading is given, as data/calls.txt has it. Anything else prints nothing.
-fn read_line<W: Write>(out: &mut W, fields: &[u8]) -> io::Result<()> {
-    let space = find(fields, 0, b' ');
-    if space == fields.len() {
+// A call of writing. Anything else prints nothing.
+fn replay_write<W: Write>(out: &mut W, fields: &[u8]) -> io::Result<()> {
+    let Some((lent, fields)) = split_lent(fields, BYTES) else {
         return Ok(());
-    }
-    let lent = number(&fields[..space]);
-    if NUMBERS < lent {
+    };
+    let Some((payload_digits, fields)) = split_word(fields) else {
         return Ok(());
-    }
-    let start = space + 1;
+    };
+    let Some((edit_digits, row_digits)) = split_word(fields) else {
+        return Ok(());
+    };
     let mut payload = [0u8; BUFFER];
-    let count = decode(&fields[start..], &mut payload);
-    replay_read(out, &payload[..count], lent)
-}
-
-// What a call of writing is given after the count that is lent, as data/calls.txt has it. Anything else
-// prints nothing.
-fn write_fields<W: Write>(out: &mut W, fields: &[u8], lent: usize) -> io::Result<()>
-    requires { lent ≤ 512 }
-{
-    let first = find(fields, 0, b' ');
-    if first == fields.len() {
-        return Ok(());
-    }
-    let start = first + 1;
-    let second = find(fields, start, b' ');
-    if second == fields.len() {
-        return Ok(());
-    }
-    let last = second + 1;
-    let mut payload = [0u8; BUFFER];
-    let bytes = decode(&fields[..first], &mut payload);
+    let bytes = decode(payload_digits, &mut payload);
     let mut edit = [0u8; BUFFER];
-    let edits = decode(&fields[start..second], &mut edit);
+    let edits = decode(edit_digits, &mut edit);
     let mut rows = [0u32; NUMBERS];
-    let numbers = decode_numbers(&fields[last..], &mut rows);
-    replay_write(
-        out,
+    let numbers = decode_numbers(row_digits, &mut rows);
+    let mut output = [UNTOUCHED_BYTE; BYTES];
+    let answer = write::write(
         &payload[..bytes],
         &edit[..edits],
         &rows[..numbers],
-        lent,
-    )
+        &mut output[..lent],
+    );
+    print_made(out, answer, &output)
 }
 
-// What a call of writing is given. Anything else prints nothing.
-fn write_line<W: Write>(out: &mut W, fields: &[u8]) -> io::Result<()> {
-    let space = find(fields, 0, b' ');
-    if space == fields.len() {
-        return Ok(());
-    }
-    let lent = number(&fields[..space]);
-    if BYTES < lent {
-        return Ok(());
-    }
-    let start = space + 1;
-    write_fields(out, &fields[start..], lent)
-}
-
-// What a call of such a job is given, as data/calls.txt has it. Anything else prints nothing.
-fn made_line<W: Write, F: Fn(&[u8], &mut [u8]) -> Answer>(
+// A call of a job that takes an input, which is a payload or a sheet, and an output. Anything else prints nothing.
+fn replay_made<W: Write, F: Fn(&[u8], &mut [u8]) -> Answer>(
     out: &mut W,
     make: F,
     fields: &[u8],
 ) -> io::Result<()>
     requires { F.IsAlwaysCallable make }
 {
-    let space = find(fields, 0, b' ');
-    if space == fields.len() {
+    let Some((lent, digits)) = split_lent(fields, BYTES) else {
         return Ok(());
-    }
-    let lent = number(&fields[..space]);
-    if BYTES < lent {
-        return Ok(());
-    }
-    let start = space + 1;
+    };
     let mut input = [0u8; BUFFER];
-    let count = decode(&fields[start..], &mut input);
-    replay_made(out, make, &input[..count], lent)
+    let count = decode(digits, &mut input);
+    let mut output = [UNTOUCHED_BYTE; BYTES];
+    let answer = make(&input[..count], &mut output[..lent]);
+    print_made(out, answer, &output)
 }
 
 // A call of the job that the line begins with. A line that names no job prints nothing.
 fn replay_line<W: Write>(out: &mut W, line: &[u8]) -> io::Result<()> {
-    let space = find(line, 0, b' ');
-    if space == line.len() {
+    let Some((word, fields)) = split_word(line) else {
         return Ok(());
+    };
+    match word {
+        b"read" => replay_read(out, fields),
+        b"write" => replay_write(out, fields),
+        b"list" => replay_made(out, listing::list, fields),
+        b"public_copy" => replay_made(out, public_copy::public_copy, fields),
+        b"card" => replay_made(out, card::card, fields),
+        b"to_sheet" => replay_made(out, to_sheet::to_sheet, fields),
+        b"from_sheet" => replay_made(out, from_sheet::from_sheet, fields),
+        _ => Ok(()),
     }
-    let start = space + 1;
-    let word = &line[..space];
-    let fields = &line[start..];
-    if check::same(word, b"read") {
-        return read_line(out, fields);
-    }
-    if check::same(word, b"write") {
-        return write_line(out, fields);
-    }
-    if check::same(word, b"list") {
-        return made_line(out, listing::list, fields);
-    }
-    if check::same(word, b"public_copy") {
-        return made_line(out, public_copy::public_copy, fields);
-    }
-    if check::same(word, b"card") {
-        return made_line(out, card::card, fields);
-    }
-    if check::same(word, b"to_sheet") {
-        return made_line(out, to_sheet::to_sheet, fields);
-    }
-    if check::same(word, b"from_sheet") {
-        return made_line(out, from_sheet::from_sheet, fields);
-    }
-    Ok(())
 }
 
 fn replay_all<W: Write>(out: &mut W, calls: &[u8]) -> io::Result<()> {

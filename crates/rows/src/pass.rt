@@ -11,15 +11,15 @@ use sizes::Sizes;
 use table::{Row, Tag};
 
 // Counts a row by its tag and the lengths of what it names.
-#[tactic(auto, unfolding(crate::specs::Measure::count_row))]
+#[tactic(auto, unfolding(crate::specs::Measure::count_by))]
 fn count_row(sizes: Sizes, row: Row) -> Sizes
     ensures { result ≡ count_row sizes row }
 {
-    let tag = Tag::from_u32(row.tag);
-    if tag.begins_section() {
-        sizes.advance(tag, row.c as usize, 0)
-    } else {
-        sizes.advance(tag, row.b as usize, row.d as usize)
+    match Tag::from_u32(row.tag) {
+        Some(tag) if tag.begins_section() => sizes.advance(tag, row.c as usize, 0),
+        Some(tag) => sizes.advance(tag, row.b as usize, row.d as usize),
+        // a row of no tag was refused
+        None => sizes,
     }
 }
 

@@ -8,7 +8,6 @@ use native.Mathlib.Omega.{arith}
 use Rattle.wire.specs.Number.{u16_at}
 use Rattle.layout.specs.Checked.{Checked}
 use Rattle.layout.specs.Kinds.{section_type}
-use Rattle.layout.specs.declared.refusal.Refusal.{Refusal}
 use Rattle.section_reader.specs.Section.{section_found}
 use Rattle.section_reader.specs.declared.section.Section.{Section}
 
@@ -24,7 +23,3 @@ module _ (p : List ℕ) (at : ℕ) where
   section-found (Ok n) s e =
       let q : ◌≡◌ {A = Section} (record { kind = section_type (u16_at p (at + 6)); at = at; size = n }) s = cc in
       record { sized = ap (λ (t : Section). Ok t.size) q; placed = ap (λ (t : Section). t.at) (sym q); of-kind = ap (λ (t : Section). t.kind) (sym q) }
-
-  pub section-refused : (c : Checked ℕ) (r : Refusal) → section_found p at c ≡ Err r → c ≡ Err r
-  section-refused (Err q) r e = cc
-  section-refused (Ok n) r e = let z : ◌≡◌ {A = ℕ} 0 1 = cc in absurd (omega arith)

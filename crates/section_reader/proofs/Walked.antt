@@ -13,7 +13,7 @@ module _ (p : List ℕ) where
       0 < left →
       kind ≡ kind_at p at →
       size ≡ u32_at p at →
-      sections_from p left at ≡ record { kind = kind; at = at; size = size } ∷ sections_from p (left - 1) (at + size)
+      sections_from p left at ≡ record { bytes = p; kind = kind; at = at } ∷ sections_from p (left - 1) (at + size)
   unfolding sections_from places_from
   sections-next zero at kind size more told sized = absurd (omega arith)
   sections-next (suc left) at kind size more told sized =

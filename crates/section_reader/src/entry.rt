@@ -1,4 +1,4 @@
-// What a section's header and its entries' headers measure: the bytes after a section's header, and the text of an entry.
+// What the entries of a section are, and what their headers measure.
 ghost use Rattle.std.specs.Prelude.{◌≡◌, ◌+◌, ◌-◌, ◌^◌, ◌≤◌};
 ghost use Rattle.wire.specs.Number.{u32_at};
 ghost use Rattle.section_reader.specs.Entry.{header_size};
@@ -25,18 +25,11 @@ impl EntryKind {
     }
 }
 
-// The length of the text of an entry at a place; 0 where its size is 0, which the first pass refuses.
+// The length of the text of an entry at a place; 0 where its size is 0, which the first pass refuses, so that every place has one.
 pub fn text_length(payload: &[u8], at: usize) -> TextLength
     ensures { result.0 ≡ u32_at payload.now (at + 8) - 1 }
 {
     WireSize(wire::read_u32(payload, at.saturating_add(8)) as usize)
         .text_length()
         .unwrap_or(TextLength(0))
-}
-
-// The bytes after the header of the section at a place; 0 where its size is less, which the first pass refuses.
-pub fn body_size(payload: &[u8], at: usize) -> u32
-    ensures { result ≡ u32_at payload.now at - 8 }
-{
-    wire::read_u32(payload, at).saturating_sub(SourceInfoSectionType::SECTION_HEADER_SIZE as u32)
 }

@@ -41,7 +41,7 @@ pub fn section_at(payload: &[u8], at: usize) -> Result<Section, Refusal>
     Ok(Section { kind, at, size })
 }
 
-// Whether bytes are left from a place on.
+// Whether bytes are left from a place on: what the reader's thin function does, as document 01 has it.
 pub fn left_at(payload: &[u8], at: usize) -> bool
     ensures { result ≡ ltb at (length payload.now) }
 {

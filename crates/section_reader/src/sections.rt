@@ -1,13 +1,15 @@
-// The sections of a payload that was checked, one after the other. Nothing is tested again: each header says where the
+// The sections of an accepted payload, one after the other. Nothing is tested again: each header says where the
 // next one stands.
-ghost use Rattle.std.specs.Prelude.{◌≡◌, ◌==◌, ◌+◌, ◌*◌, ◌^◌, ◌≤◌, List};
-ghost use Rattle.std.specs.Iterator.{YieldsFirst, item_count};
-ghost use Rattle.section_reader.specs.declared.section.Section.{Section as Found};
+ghost use Rattle.std.specs.Prelude.{is_ok, true, ◌≡◌, ◌<◌, ◌≤◌, length, List};
+ghost use Rattle.std.specs.Iterator.{YieldsFirstBy, item_count};
 ghost use Rattle.std.specs.List.{count_by};
 ghost use Rattle.layout.specs.Kinds.{known};
-ghost use Rattle.section_reader.specs.Sections.{sections_from};
+ghost use Rattle.format.specs.Encoding.{limit};
+ghost use Rattle.format.specs.Parse.{parse_sections};
+ghost use Rattle.section_reader.specs.Sections.{Found, sections_from, sections};
 
-use crate::section::Section;
+use crate::checked_section::CheckedSection;
+use crate::payload::Payload;
 use layout::SourceInfoSectionType;
 use std::marker::Model;
 
@@ -24,49 +26,49 @@ impl<'a> Model for Sections<'a> {
 
     ghost view = { λ s. sections_from s.payload.now s.left s.at };
 
-    // every place is a number that can be added to
-    ghost invariant = { λ s. s.at + 4294967296 * s.left ≤ 2 ^ 60 };
+    ghost invariant = { λ s. (length s.payload.now ≤ limit) × (is_ok (parse_sections s.left s.payload.now s.at) ≡ true) };
 }
 
 impl<'a> Sections<'a> {
-    // So many of them, from the main header on.
-    pub fn new(payload: &'a [u8], count: u16) -> Sections<'a>
-        ensures { result ≡ sections_from payload.now count 8 }
+    // All of them, from the main header on.
+    pub fn new(payload: Payload<'a>) -> Sections<'a>
+        ensures value { result ≡ sections payload.entry.bytes.now }
+        ensures len_bound { length result < 65536 }
     {
         Sections {
-            payload,
+            payload: payload.bytes,
             at: SourceInfoSectionType::MAIN_HEADER_SIZE,
-            left: count,
+            left: payload.section_count(),
         }
     }
 }
 
 impl<'a> Iterator for Sections<'a> {
-    type Item = Section;
+    type Item = CheckedSection<'a>;
 
-    ghost next_gives = { YieldsFirst (λ left. left) };
+    ghost next_gives = { YieldsFirstBy (λ s. record { bytes = s.payload.now; kind = s.kind; at = s.at }) (λ left. left) };
 
     ghost remaining = { item_count (λ left. left) };
 
-    fn next(&mut self) -> Option<Section> {
+    fn next(&mut self) -> Option<CheckedSection<'a>> {
         if self.left == 0 {
             return None;
         }
+        let payload = self.payload;
         let at = self.at;
-        let size = wire::read_u32(self.payload, at) as usize;
-        let kind = SourceInfoSectionType::from_u16(wire::read_u16(self.payload, at + 6));
+        let size = wire::read_u32(payload, at) as usize;
+        let kind = SourceInfoSectionType::from_u16(wire::read_u16(payload, at + 6));
         self.at += size;
         self.left -= 1;
-        Some(Section { kind, at, size })
+        Some(CheckedSection { payload, kind, at })
     }
 }
 
-// How many of so many sections are of a known kind.
-#[tactic(auto, using(crate::proofs::Accepted::as_many))]
-pub fn known_sections(payload: &[u8], count: u16) -> u16
-    ensures { result ≡ count_by (λ s. known s.kind == 1) (sections_from payload.now count 8) }
+// How many sections of a payload are of a known kind.
+pub fn known_sections(payload: Payload) -> u16
+    ensures { result ≡ count_by (λ s. known s.kind) (sections payload.entry.bytes.now) }
 {
-    Sections::new(payload, count)
-        .filter(|section| section.kind.known() == 1)
+    Sections::new(payload)
+        .filter(|section| section.kind.is_known())
         .count() as u16
 }

@@ -1,6 +1,6 @@
 -- A fault of a sheet is that of its first faulty line, with this line's number.
 -- Assumes nothing.
-use Rattle.std.specs.Prelude.{Err, Ok}
+use Rattle.std.specs.Prelude.{Option, Some, None, Err, Ok}
 use Prim.Native.Nat.{ℕ, ◌+◌}
 use mathlib.Core.Bool.{Bool, true, false}
 use mathlib.Core.List.{List, [], ◌∷◌, ◌++◌, flat_map, append_assoc}
@@ -14,7 +14,6 @@ use Rattle.layout.specs.Checked.{Checked, check, then}
 use Rattle.layout.specs.declared.refusal.Refusal.{Refusal}
 use Rattle.layout.proofs.Checked.{then-passes}
 use Rattle.table.specs.declared.tag.Tag.{Tag}
-use Rattle.table.specs.declared.tag.Tag.TheVariants.{None}
 use Rattle.format.specs.Records.{Record}
 use Rattle.format.specs.WellFormed.{All}
 use Rattle.sheet.specs.Fields.{newline}
@@ -53,7 +52,7 @@ unfolding flat_map
 closed_parts_lem line lines free = ap (split newline) (append_assoc line (newline ∷ []) (closed lines)) ∙ closed-split newline line (closed lines) free
 
 -- what is found among parts, the first of which has a number and stands after a line of the previous tag
-record Found (n : ℕ) (previous : Tag) (first : List ℕ) (rest : List (List ℕ)) (refusal : Refusal) : Type 0 where
+record Found (n : ℕ) (previous : Option Tag) (first : List ℕ) (rest : List (List ℕ)) (refusal : Refusal) : Type 0 where
   before : List (List ℕ)
   line : List ℕ
   after : List (List ℕ)
@@ -64,13 +63,13 @@ record Found (n : ℕ) (previous : Tag) (first : List ℕ) (rest : List (List �
 
 -- where the first part is at fault
 here :
-    (n : ℕ) (previous : Tag) (first : List ℕ) (rest : List (List ℕ)) (refusal : Refusal) → RefusedLine n previous first rest refusal → Found n previous first rest refusal
+    (n : ℕ) (previous : Option Tag) (first : List ℕ) (rest : List (List ℕ)) (refusal : Refusal) → RefusedLine n previous first rest refusal → Found n previous first rest refusal
 unfolding read_lines split flat_map check last_tag
 here n previous first rest refusal own =
     record { before = []; line = first; after = rest; parted = refl; records = []; read = refl; own = rw (add-zero n) own }
 
 find :
-    (rest : List (List ℕ)) (n : ℕ) (previous : Tag) (first : List ℕ) (refusal : Refusal) →
+    (rest : List (List ℕ)) (n : ℕ) (previous : Option Tag) (first : List ℕ) (refusal : Refusal) →
     read_lines n previous first rest ≡ Err refusal →
     Free newline first →
     All (Free newline) rest →
@@ -85,7 +84,7 @@ find (next ∷ rest) n previous first refusal e free (k, ks) =
     (λ r this g.
     then-fault _ _ refusal g
     (λ f.
-    let h = find rest _ r.tag next refusal f k ks in
+    let h = find rest _ (Some r.tag) next refusal f k ks in
     record {
       before = first ∷ h.before;
       line = h.line;
@@ -93,7 +92,7 @@ find (next ∷ rest) n previous first refusal e free (k, ks) =
       parted = ap (λ (l : List (List ℕ)). first ∷ l) h.parted;
       records = r ∷ h.records;
       read = rw (closed_parts_lem first h.before free) (then-passes _ _ this (then-passes _ _ h.read refl));
-      own = subst (λ (number : ℕ). RefusedLine number (last_tag r.tag h.records) h.line h.after refusal) (omega arith) h.own;
+      own = subst (λ (number : ℕ). RefusedLine number (last_tag (Some r.tag) h.records) h.line h.after refusal) (omega arith) h.own;
     })
     (λ rs f g. absurd (never g)))
 

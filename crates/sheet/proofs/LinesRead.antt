@@ -1,10 +1,10 @@
 -- Lines: the line of a record is read as the record, and a line that is read as a record is its line.
 -- Assumes nothing.
-use Rattle.std.specs.Prelude.{Ok}
+use Rattle.std.specs.Prelude.{Option, Some, None, Ok}
 use Prim.Native.Nat.{ℕ, ◌+◌, ◌-◌, ◌%◌, min}
 use mathlib.Core.Bool.{Bool, true, false, cond, ◌&&◌, and-eq-true_iff}
 use mathlib.Core.List.{List, [], ◌∷◌, ◌++◌, map, flat_map}
-use mathlib.Core.Path.{◌≡◌, refl, ap, ap₂, ◌∙◌}
+use mathlib.Core.Path.{◌≡◌, refl, sym, ap, ap₂, ◌∙◌}
 use native.Mathlib.Omega.{arith}
 use borrow.Author.Tests.{leb-true, le-leb, eqb-true, eq-eqb}
 use lib.Dec.{leb, eqb}
@@ -18,7 +18,7 @@ use Rattle.table.specs.declared.tag.Tag.TheVariants as tag
 use Rattle.format.specs.Display.{decimal}
 use Rattle.format.specs.Records.{Record, number_count, text_count, is_placed, number, text}
 use Rattle.format.specs.WellFormed.{Bytes, All}
-use Rattle.format.proofs.Records.{Shaped, no_record}
+use Rattle.format.proofs.Records.{Shaped}
 use Rattle.format.proofs.RecordsOk.{TextOk, KindOk, Whole}
 use Rattle.format.proofs.RowsByTag.{all_append}
 use Rattle.format.proofs.TextsOk.{whole-ok, ok-whole}
@@ -67,7 +67,6 @@ ruled r tag.Unknown q (low, high, whole) = rw (q, le-leb 3 (number 0 r) low, le-
 ruled r tag.Content q k = rw q
 ruled r tag.Name q k = rw q
 ruled r tag.Pair q k = rw q
-ruled r tag.None q k = rw q
 
 module _ (r : Record) (whole : Whole r) where
   abbrev own : Tag
@@ -118,7 +117,7 @@ module _ (r : Record) (whole : Whole r) where
       parted-free [] h = tt
       parted-free (f ∷ fs) (h, hs) = (refl, all_append _ f (parted fs) h.1 (parted-free fs hs))
 
-  pub line_read : (refusal : Refusal) (previous : Tag) → is_placed previous own ≡ true → read_line refusal previous (body r) ≡ Ok r
+  pub line_read : (refusal : Refusal) (previous : Option Tag) → is_placed previous own ≡ true → read_line refusal previous (body r) ≡ Ok r
   unfolding read_line read_fields
   line_read refusal previous placed =
       let is : is_ruled (said_by own (fields r)) ≡ true = ap is_ruled said-back ∙ ruled r own refl whole.1.kind in
@@ -140,7 +139,6 @@ kind_ok r tag.Unknown q e =
 kind_ok r tag.Content q e = tt
 kind_ok r tag.Name q e = tt
 kind_ok r tag.Pair q e = tt
-kind_ok r tag.None q e = tt
 
 texts-ok : (b : Bool) (ts : List (List ℕ)) → All (Held b) ts → check_all (cond b [] ts) ≡ Ok tt → All (TextOk b) ts
 unfolding check_all
@@ -176,18 +174,19 @@ module _ (t : Tag) (fs : List (List ℕ)) (made : is_made t fs ≡ true) where
       let (first, second) = (and-eq-true_iff (eqb (length fs) (number_count t + text_count t)) (all is_number (take (number_count t) fs))).0 two in
       record { many = eqb-true (length fs) (number_count t + text_count t) first; numbers = second; texts = third }
 
-module _ (refusal : Refusal) (previous : Tag) (bytes : List ℕ) (r : Record) (e : read_line refusal previous bytes ≡ Ok r) where
+module _ (refusal : Refusal) (previous : Option Tag) (bytes : List ℕ) (r : Record) (e : read_line refusal previous bytes ≡ Ok r) where
   abbrev p : Parts
   p = split tab bytes
 
   abbrev t : Tag
-  t = tag_of_word p.first
+  t = r.tag
 
   abbrev fs : List (List ℕ)
   fs = p.rest
 
   -- what was tested
   pub record Tested : Type 0 where
+    pub named : tag_of_word p.first ≡ Some t
     pub is : r ≡ said_by t fs
     pub made : is_made t fs ≡ true
     pub placed : is_placed previous t ≡ true
@@ -196,22 +195,30 @@ module _ (refusal : Refusal) (previous : Tag) (bytes : List ℕ) (r : Record) (e
 
   pub tested : Tested
   unfolding read_line read_fields
-  tested =
-      let (tests, rest) = check-good _ _ _ _ e in
-      let (done, plain, same) = then-good _ _ _ rest in
-      let (two, third) = (and-eq-true_iff (is_made t fs && is_placed previous t) (is_ruled (said_by t fs))).0 tests in
-      let (first, second) = (and-eq-true_iff (is_made t fs) (is_placed previous t)).0 two in
-      let is : r ≡ said_by t fs = cc in
-      record { is = is; made = first; placed = second; ruled = rw is third; texts = rw is plain }
-
-  pub read-placed : is_placed previous r.tag ≡ true
-  read-placed = rw tested.is tested.placed
+  tested = go (tag_of_word p.first) refl e
+    where
+      go : (o : Option Tag) → tag_of_word p.first ≡ o → read_fields refusal previous o fs ≡ Ok r → Tested
+      go None q e = let z : ◌≡◌ {A = ℕ} 0 1 = cc in absurd (omega arith)
+      go (Some u) q e =
+          let (tests, rest) = check-good _ _ _ _ e in
+          let (done, plain, same) = then-good _ _ _ rest in
+          let (two, third) = (and-eq-true_iff (is_made u fs && is_placed previous u) (is_ruled (said_by u fs))).0 tests in
+          let (first, second) = (and-eq-true_iff (is_made u fs) (is_placed previous u)).0 two in
+          let is : r ≡ said_by u fs = cc in
+          let own : u ≡ t = sym (ap (λ (r : Record). r.tag) is) in
+          record {
+            named = q ∙ ap Some own;
+            is = is ∙ ap (λ (u : Tag). said_by u fs) own;
+            made = rw own at first;
+            placed = rw own at second;
+            ruled = ap is_ruled is ∙ third;
+            texts = ap (λ (r : Record). check_all (texts_of r)) is ∙ plain;
+          }
 
   pub read_whole : Whole r
   read_whole =
       let is = tested.is in
       let f = each-field t fs tested.made in
-      let own : r.tag ≡ t = ap (λ (r : Record). r.tag) is in
       let shape : Shaped (said_by t fs) =
       record {
         numbers = length-map (take (number_count t) fs) number_of ∙ length-take (number_count t) fs ∙ (let e : min (number_count t) (length fs) ≡ number_count t = omega arith in e);
@@ -231,7 +238,7 @@ module _ (refusal : Refusal) (previous : Tag) (bytes : List ℕ) (r : Record) (e
       let within = fields_free fs rest (split-free tab bytes).1 in
       let (first, second) = all-parts Within (take (number_count t) fs) (drop (number_count t) fs) (rw take-append-drop within) in
       let f = each-field t fs tested.made in
-      let named : word t ≡ p.first = word-again p.first (λ none. no_record previous (rw none at tested.placed)) in
+      let named : word t ≡ p.first = word-again p.first t tested.named in
       let same : fields (said_by t fs) ≡ fs =
       ap₂ (λ (a b : List (List ℕ)). a ++ b)
       (all-again number-codec (take (number_count t) fs) first f.numbers)

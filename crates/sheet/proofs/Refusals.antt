@@ -1,6 +1,6 @@
 -- The promises of specs/Promises.antt on refused sheets, each under its name.
 -- Assumes nothing.
-use Rattle.std.specs.Prelude.{Err, Ok}
+use Rattle.std.specs.Prelude.{Option, Some, None, Err, Ok}
 use Prim.Native.Nat.{ℕ, ◌+◌, ◌≤◌, min}
 use mathlib.Core.List.{List, [], ◌∷◌, ◌++◌}
 use mathlib.Core.Logic.{◌⊎◌, inl, inr}
@@ -14,13 +14,12 @@ use Rattle.layout.specs.declared.refusal.Refusal.TheVariants.{NotUtf8, InnerNul,
 use Rattle.layout.proofs.Checked.{after-fault, after-good}
 use Rattle.layout.proofs.Faults.{Only, only-value as value, only-test as test, only_step as step}
 use Rattle.table.specs.declared.tag.Tag.{Tag}
-use Rattle.table.specs.declared.tag.Tag.TheVariants.{None}
 use Rattle.format.specs.Output.{answer}
 use Rattle.format.specs.RefusedCalls.{LacksRoom}
 use Rattle.format.proofs.Output.{for-room}
-use Rattle.sheet.specs.Fields.{newline}
+use Rattle.sheet.specs.Fields.{tab, newline}
 use Rattle.sheet.specs.FromSheet.{read_lines, sheet_records, from_sheet, from_sheet_answer}
-use Rattle.sheet.specs.Lines.{Parts, parts, split, check_all, read_fields, read_line}
+use Rattle.sheet.specs.Lines.{Parts, parts, split, tag_of_word, check_all, read_fields, read_line}
 use Rattle.sheet.specs.Promises.{FirstFaultDecides, OfLines, CallsFirstFault, last_tag, RefusedLine, FaultyLine, CallsFaultyLine, LineNumber, OfSheet, FromSheetRefuses}
 use Rattle.sheet.proofs.FaultyLines.{never, then-fault, check-fault, fault-is-of-a-line}
 use Rattle.sheet.proofs.Splitting.{split-append}
@@ -29,7 +28,7 @@ use Rattle.sheet.proofs.Splitting.{split-append}
 
 -- lines at fault are so whatever stands after them
 fault-stays :
-    (rest : List (List ℕ)) (n : ℕ) (previous : Tag) (line last : List ℕ) (more : List (List ℕ)) (r : Refusal) →
+    (rest : List (List ℕ)) (n : ℕ) (previous : Option Tag) (line last : List ℕ) (more : List (List ℕ)) (r : Refusal) →
     read_lines n previous line (rest ++ [] ∷ []) ≡ Err r →
     read_lines n previous line (rest ++ last ∷ more) ≡ Err r
 unfolding read_lines check
@@ -43,7 +42,7 @@ fault-stays (next ∷ rest) n previous line last more r e =
     (λ a f g.
     after-good _ _ f ∙
     then-fault _ _ r g
-    (λ f. after-fault _ _ (fault-stays rest _ a.tag next last more r f))
+    (λ f. after-fault _ _ (fault-stays rest _ (Some a.tag) next last more r f))
     (λ rs f g. absurd (never g)))
 
 split-ended : (s : List ℕ) → split newline (s ++ (newline ∷ [])) ≡ parts (split newline s).first ((split newline s).rest ++ [] ∷ [])
@@ -71,9 +70,13 @@ module _ (own : Refusal) where
   texts [] = value tt
   texts (t ∷ ts) = step _ _ (test _ _ _ (inl refl) (test _ _ _ (inr (inl refl)) (value tt))) (λ _. texts ts)
 
-  line : (previous : Tag) (bytes : List ℕ) → Only (OfLine own) (read_line own previous bytes)
+  line : (previous : Option Tag) (bytes : List ℕ) → Only (OfLine own) (read_line own previous bytes)
   unfolding read_line read_fields
-  line previous bytes = test _ _ _ (inr (inr refl)) (step _ _ (texts _) (λ _. value _))
+  line previous bytes = go (tag_of_word (split tab bytes).first)
+    where
+      go : (t : Option Tag) → Only (OfLine own) (read_fields own previous t (split tab bytes).rest)
+      go None = record { only = λ refusal e. inr (inr (let same : refusal ≡ own = cc in same)) }
+      go (Some t) = test _ _ _ (inr (inr refl)) (step _ _ (texts _) (λ _. value _))
 
 -- of a faulty line
 of-faulty : (s : List ℕ) (refusal : Refusal) (f : FaultyLine s refusal) → OfLine (BadLine (min (1 + length f.before) 4294967295)) refusal

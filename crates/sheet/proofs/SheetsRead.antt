@@ -1,6 +1,6 @@
 -- Sheets: the lines of records are read as the records, and a sheet that is read as records is their lines.
 -- Assumes nothing.
-use Rattle.std.specs.Prelude.{Ok}
+use Rattle.std.specs.Prelude.{Option, Some, None, Ok}
 use Prim.Native.Nat.{ℕ, ◌+◌}
 use mathlib.Core.Bool.{true, and-eq-true_iff}
 use mathlib.Core.List.{List, [], ◌∷◌, ◌++◌, flat_map, append_assoc}
@@ -11,14 +11,13 @@ use lib.ListN.{length}
 use Rattle.layout.specs.Checked.{check}
 use Rattle.layout.proofs.Checked.{check-good, then-good, then-passes}
 use Rattle.table.specs.declared.tag.Tag.{Tag}
-use Rattle.table.specs.declared.tag.Tag.TheVariants.{None}
 use Rattle.format.specs.Records.{Record, is_placed, in_order}
 use Rattle.format.specs.WellFormed.{All}
 use Rattle.format.proofs.RecordsOk.{Whole}
 use Rattle.sheet.specs.Fields.{newline}
 use Rattle.sheet.specs.FromSheet.{bad_line, read_lines, sheet_records}
 use Rattle.sheet.specs.Lines.{line, Parts, split, read_line}
-use Rattle.sheet.proofs.LinesRead.{body, body-within, line_read, read-placed, read_whole, read_again}
+use Rattle.sheet.proofs.LinesRead.{body, body-within, line_read, tested, read_whole, read_again}
 use Rattle.sheet.proofs.Splitting.{Free, following, closed-split, split-joined, split-free}
 
 -- a line and what follows it
@@ -29,7 +28,7 @@ line-then r s = simp append_assoc
 -- ---- from records to a sheet
 
 lines-read :
-    (rs : List Record) (n : ℕ) (previous : Tag) →
+    (rs : List Record) (n : ℕ) (previous : Option Tag) →
     in_order previous rs ≡ true →
     All Whole rs →
     (let p : Parts = split newline (flat_map line rs) in
@@ -37,8 +36,8 @@ lines-read :
 unfolding in_order flat_map
 lines-read [] n previous order oks = unfold read_lines split check in refl
 lines-read (r ∷ rs) n previous order (ok, oks) =
-    let (here, rest) = (and-eq-true_iff (is_placed previous r.tag) (in_order r.tag rs)).0 order in
-    let after = lines-read rs (n + 1) r.tag rest oks in
+    let (here, rest) = (and-eq-true_iff (is_placed previous r.tag) (in_order (Some r.tag) rs)).0 order in
+    let after = lines-read rs (n + 1) (Some r.tag) rest oks in
     go (line_read r ok (bad_line n) previous here) after
   where
     s : List ℕ
@@ -46,7 +45,7 @@ lines-read (r ∷ rs) n previous order (ok, oks) =
 
     go :
         read_line (bad_line n) previous (body r) ≡ Ok r →
-        read_lines (n + 1) r.tag (split newline s).first (split newline s).rest ≡ Ok rs →
+        read_lines (n + 1) (Some r.tag) (split newline s).first (split newline s).rest ≡ Ok rs →
         read_lines n previous (split newline (line r ++ s)).first (split newline (line r ++ s)).rest ≡ Ok (r ∷ rs)
     go this after =
         rw (line-then r s, closed-split newline (body r) s (body-within r ok))
@@ -59,7 +58,7 @@ records-read rs order oks = lines-read rs 1 None order oks
 -- ---- from a sheet to records
 
 -- what is known of records that some parts were read as
-record Read (previous : Tag) (first : List ℕ) (rest : List (List ℕ)) (rs : List Record) : Type 0 where
+record Read (previous : Option Tag) (first : List ℕ) (rest : List (List ℕ)) (rs : List Record) : Type 0 where
   lines : flat_map line rs ≡ first ++ following newline rest
   whole : All Whole rs
   order : in_order previous rs ≡ true
@@ -69,7 +68,7 @@ none [] e = refl
 none (b ∷ l) e = absurd (omega arith)
 
 read-lines :
-    (rest : List (List ℕ)) (n : ℕ) (previous : Tag) (first : List ℕ) (rs : List Record) →
+    (rest : List (List ℕ)) (n : ℕ) (previous : Option Tag) (first : List ℕ) (rs : List Record) →
     read_lines n previous first rest ≡ Ok rs →
     Free newline first →
     All (Free newline) rest →
@@ -83,14 +82,14 @@ read-lines [] n previous last rs e free frees =
 read-lines (next ∷ rest) n previous first rs e free (k, ks) =
     let (r, this, more) = then-good _ _ _ e in
     let (others, after, same) = then-good _ _ _ more in
-    let h = read-lines rest (n + 1) r.tag next others after k ks in
+    let h = read-lines rest (n + 1) (Some r.tag) next others after k ks in
     let records : rs ≡ r ∷ others = cc in
     let again = read_again (bad_line n) previous first r this free in
     rw records (
     record {
       lines = line-then r (flat_map line others) ∙ ap₂ (λ (a b : List ℕ). a ++ newline ∷ b) again h.lines;
       whole = (read_whole (bad_line n) previous first r this, h.whole);
-      order = rw (read-placed (bad_line n) previous first r this) h.order;
+      order = rw ((tested (bad_line n) previous first r this).placed) h.order;
     }
     )
 

@@ -1,13 +1,14 @@
 -- Words: each is read as its tag, and what is read as a tag is its word.
 -- Assumes nothing.
+use Rattle.std.specs.Prelude.{Some}
 use Prim.Native.Nat.{ℕ}
 use mathlib.Core.Bool.{Bool, true, false, cond, not, ◌&&◌, and-eq-true_iff}
 use mathlib.Core.List.{List, [], ◌∷◌}
-use mathlib.Core.Logic.{◌⊎◌, inl, inr}
 use mathlib.Core.Path.{◌≡◌, refl, sym, ap₂}
 use native.Mathlib.Omega.{arith}
 use borrow.Author.Tests.{eqb-true, not-true}
 use lib.Dec.{eqb}
+use Rattle.std.proofs.lemmas.Option.{none-some}
 use Rattle.table.specs.declared.tag.Tag.{Tag}
 use Rattle.table.specs.declared.tag.Tag.TheVariants as tag
 use Rattle.format.specs.Display.{ascii}
@@ -17,7 +18,7 @@ use Rattle.sheet.proofs.Codec.{Within}
 
 -- ---- from a tag to its word
 
-pub word_read : (t : Tag) → tag_of_word (word t) ≡ t
+pub word_read : (t : Tag) → tag_of_word (word t) ≡ Some t
 unfolding ascii same tag_among
 word_read tag.PlainContents = refl
 word_read tag.PackedContents = refl
@@ -27,7 +28,6 @@ word_read tag.Unknown = refl
 word_read tag.Content = refl
 word_read tag.Name = refl
 word_read tag.Pair = refl
-word_read tag.None = refl
 
 -- a test that computes
 is_within : List ℕ → Bool
@@ -52,7 +52,6 @@ word-within tag.Unknown = within (word tag.Unknown) refl
 word-within tag.Content = within (word tag.Content) refl
 word-within tag.Name = within (word tag.Name) refl
 word-within tag.Pair = within (word tag.Pair) refl
-word-within tag.None = (tt, tt)
 
 -- ---- from a word to its tag
 
@@ -65,22 +64,14 @@ same-is (a ∷ s) (b ∷ t) e =
     let (this, rest) = (and-eq-true_iff (eqb a b) (same s t)).0 e in
     ap₂ (λ (x : ℕ) (l : List ℕ). x ∷ l) (eqb-true a b this) (same-is s t rest)
 
-among : (ts : List Tag) (w : List ℕ) → (tag_among ts w ≡ tag.None) ⊎ (word (tag_among ts w) ≡ w)
+among : (ts : List Tag) (w : List ℕ) (t : Tag) → tag_among ts w ≡ Some t → word t ≡ w
 unfolding tag_among
-among [] w = inl refl
-among (t ∷ ts) w = go (same w (word t)) refl (among ts w)
+among [] w t e = absurd (none-some t e)
+among (u ∷ ts) w t e = go (same w (word u)) refl e (among ts w t)
   where
-    go :
-        (is : Bool) →
-        same w (word t) ≡ is →
-        (tag_among ts w ≡ tag.None) ⊎ (word (tag_among ts w) ≡ w) →
-        (cond is t (tag_among ts w) ≡ tag.None) ⊎ (word (cond is t (tag_among ts w)) ≡ w)
-    go true e h = inr (sym (same-is w (word t) e))
-    go false e h = h
+    go : (is : Bool) → same w (word u) ≡ is → cond is (Some u) (tag_among ts w) ≡ Some t → (tag_among ts w ≡ Some t → word t ≡ w) → word t ≡ w
+    go true is e others = let own : u ≡ t = cc in rw own at (sym (same-is w (word u) is))
+    go false is e others = others e
 
-pub word-again : (w : List ℕ) → (tag_of_word w ≡ tag.None → ⊥) → word (tag_of_word w) ≡ w
-word-again w some = go (among tags w)
-  where
-    go : (tag_of_word w ≡ tag.None) ⊎ (word (tag_of_word w) ≡ w) → word (tag_of_word w) ≡ w
-    go (inl none) = absurd (some none)
-    go (inr is) = is
+pub word-again : (w : List ℕ) (t : Tag) → tag_of_word w ≡ Some t → word t ≡ w
+word-again w t e = among tags w t e

@@ -1,11 +1,10 @@
 -- The payload of a sheet, with lent output: the answer, and the output afterwards. Lines are taken in order, and the first faulty one decides.
 use Rattle.layout.specs.Refusals.{Answer}
-use Rattle.std.specs.Prelude.{ℕ, ◌+◌, min, List, [], ◌∷◌, length, eqb, Ok}
+use Rattle.std.specs.Prelude.{ℕ, ◌+◌, min, List, [], ◌∷◌, length, eqb, Option, Some, None, Ok}
 use Rattle.layout.specs.Checked.{Checked, check, then}
 use Rattle.layout.specs.declared.refusal.Refusal.{Refusal}
 use Rattle.layout.specs.declared.refusal.Refusal.TheVariants.{WontFit, BadLine}
 use Rattle.table.specs.declared.tag.Tag.{Tag}
-use Rattle.table.specs.declared.tag.Tag.TheVariants.{None}
 use Rattle.format.specs.Encoding.{encode, within_limits}
 use Rattle.format.specs.Output.{answer, output_after}
 use Rattle.format.specs.Records.{Record, sections}
@@ -19,11 +18,11 @@ bad_line n = BadLine (min n 4294967295)
 
 -- The records of lines, the first of which has a number and stands after a line of the previous tag. Each part but the last is closed by a newline;
 -- the last is not, and so must be empty.
-unfoldable pub read_lines : ℕ → Tag → List ℕ → List (List ℕ) → Checked (List Record)
+unfoldable pub read_lines : ℕ → Option Tag → List ℕ → List (List ℕ) → Checked (List Record)
 read_lines n previous last [] = check (eqb (length last) 0) (bad_line n) (λ _. Ok [])
 read_lines n previous first (next ∷ rest) =
     then (read_line (bad_line n) previous first) (λ r.
-    then (read_lines (n + 1) r.tag next rest) (λ rs.
+    then (read_lines (n + 1) (Some r.tag) next rest) (λ rs.
     Ok (r ∷ rs)))
 
 -- the records of a sheet

@@ -1,6 +1,6 @@
 -- A record as a line of a sheet: a word that tells its tag, its numbers, its bytes or texts, parted by tabs and closed by a newline. And a line as
 -- a record.
-use Rattle.std.specs.Prelude.{ℕ, ◌+◌, ◌%◌, Bool, true, false, cond, not, ◌&&◌, ◌||◌, leb, eqb, length, take, drop, Ok}
+use Rattle.std.specs.Prelude.{ℕ, ◌+◌, ◌%◌, Bool, true, false, cond, not, ◌&&◌, ◌||◌, leb, eqb, length, take, drop, Option, Some, None, Err, Ok}
 use mathlib.Core.List.{List, [], ◌∷◌, ◌++◌, map, flat_map}
 use Rattle.layout.specs.Checked.{Checked, check, then}
 use Rattle.layout.specs.TextCheck.{check_whole}
@@ -22,7 +22,6 @@ word tag.Unknown = ascii "unknown"
 word tag.Content = ascii "content"
 word tag.Name = ascii "name"
 word tag.Pair = ascii "pair"
-word tag.None = []
 
 -- ---- out
 
@@ -64,14 +63,14 @@ same (a ∷ s) [] = false
 same (a ∷ s) (b ∷ t) = eqb a b && same s t
 
 -- the tag among some that has a word; None where none has
-unfoldable pub tag_among : List Tag → List ℕ → Tag
-tag_among [] w = tag.None
-tag_among (t ∷ ts) w = cond (same w (word t)) t (tag_among ts w)
+unfoldable pub tag_among : List Tag → List ℕ → Option Tag
+tag_among [] w = None
+tag_among (t ∷ ts) w = cond (same w (word t)) (Some t) (tag_among ts w)
 
 abbrev pub tags : List Tag
 tags = tag.PlainContents ∷ tag.PackedContents ∷ tag.Names ∷ tag.Arguments ∷ tag.Unknown ∷ tag.Content ∷ tag.Name ∷ tag.Pair ∷ []
 
-abbrev pub tag_of_word : List ℕ → Tag
+abbrev pub tag_of_word : List ℕ → Option Tag
 tag_of_word w = tag_among tags w
 
 -- whether a field is one of the bytes or texts of a line of a tag, and what it then says
@@ -92,7 +91,7 @@ is_made tag fs =
 
 -- what the rule of rows asks of an unknown section: a kind from 3 to 65,535, and a multiple of 4 bytes
 abbrev pub is_ruled : Record → Bool
-is_ruled r = not (same_tag r.tag tag.Unknown) || (leb 3 (number 0 r) && leb (number 0 r) 65535 && eqb (length (text 0 r) % 4) 0)
+is_ruled r = not (same_tag (Some r.tag) (Some tag.Unknown)) || (leb 3 (number 0 r) && leb (number 0 r) 65535 && eqb (length (text 0 r) % 4) 0)
 
 -- texts in order: the first fault counts
 unfoldable pub check_all : List (List ℕ) → Checked (Unit {0})
@@ -104,16 +103,17 @@ abbrev pub texts_of : Record → List (List ℕ)
 texts_of r = cond (begins_section r.tag) [] r.texts
 
 -- the record of a line of a tag, with its fields, after a line of the previous tag: first the line, with the refusal that a fault of it has, then
--- its texts
-unfoldable pub read_fields : Refusal → Tag → Tag → List (List ℕ) → Checked Record
-read_fields refusal previous tag fs =
+-- its texts. A line of no tag is at fault
+unfoldable pub read_fields : Refusal → Option Tag → Option Tag → List (List ℕ) → Checked Record
+read_fields refusal previous None fs = Err refusal
+read_fields refusal previous (Some tag) fs =
     let r : Record = said_by tag fs in
     check (is_made tag fs && is_placed previous tag && is_ruled r) refusal (λ _.
     then (check_all (texts_of r)) (λ _.
     Ok r))
 
 -- the record of a line without its newline: its first part is its word, the others are its fields
-unfoldable pub read_line : Refusal → Tag → List ℕ → Checked Record
+unfoldable pub read_line : Refusal → Option Tag → List ℕ → Checked Record
 read_line refusal previous bytes =
     let p : Parts = split tab bytes in
     read_fields refusal previous (tag_of_word p.first) p.rest

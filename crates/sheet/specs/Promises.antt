@@ -1,11 +1,10 @@
 -- What the definitions promise, of every payload and every sheet. Each is proved under its name in proofs/Promises.antt, FaultyLines.antt,
 -- Refusals.antt or SheetSize.antt.
-use Rattle.std.specs.Prelude.{ℕ, ◌+◌, ◌*◌, ◌≤◌, ◌<◌, min, ◌⊎◌, ◌≡◌, length, take, Err, Ok}
+use Rattle.std.specs.Prelude.{ℕ, ◌+◌, ◌*◌, ◌≤◌, ◌<◌, min, ◌⊎◌, ◌≡◌, length, take, Option, Some, None, Err, Ok}
 use mathlib.Core.List.{List, [], ◌∷◌, ◌++◌, flat_map}
 use Rattle.layout.specs.declared.refusal.Refusal.{Refusal}
 use Rattle.layout.specs.declared.refusal.Refusal.TheVariants.{NotUtf8, InnerNul, WontFit, BadLine}
 use Rattle.table.specs.declared.tag.Tag.{Tag}
-use Rattle.table.specs.declared.tag.Tag.TheVariants.{None}
 use Rattle.format.specs.Output.{answer, output_after}
 use Rattle.format.specs.Records.{Record}
 use Rattle.format.specs.RefusedCalls.{LacksRoom, RefusesAsReading}
@@ -77,13 +76,13 @@ abbrev pub closed : List (List ℕ) → List ℕ
 closed lines = flat_map (λ (line : List ℕ). line ++ (newline ∷ [])) lines
 
 -- the tag of the last of some records; the previous tag where there are none
-unfoldable pub last_tag : Tag → List Record → Tag
+unfoldable pub last_tag : Option Tag → List Record → Option Tag
 last_tag previous [] = previous
-last_tag previous (r ∷ rs) = last_tag r.tag rs
+last_tag previous (r ∷ rs) = last_tag (Some r.tag) rs
 
 -- a line with its number, after a line of the previous tag, is refused: it is not closed, since nothing comes after it, and not empty, which is 20
 -- with its number; or it is closed, and the refusal is that of reading it, where 20 has its number
-abbrev pub RefusedLine : ℕ → Tag → List ℕ → List (List ℕ) → Refusal → Type 0
+abbrev pub RefusedLine : ℕ → Option Tag → List ℕ → List (List ℕ) → Refusal → Type 0
 RefusedLine number previous line after refusal =
     ((after ≡ []) × (0 < length line) × (refusal ≡ BadLine (min number 4294967295)))
     ⊎ ((0 < length after) × (read_line (BadLine (min number 4294967295)) previous line ≡ Err refusal))

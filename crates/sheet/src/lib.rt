@@ -1,5 +1,6 @@
 // A sheet: a payload as lines of text, which a moderator can edit. This crate has no code: specs/ holds the
-// definitions that the contracts of to_sheet and of measure (crate lines) name, and the promises; proofs/ proves them.
+// definitions that the contracts of the crates of sheets name (field_writer, to_sheet, line_reader, lines, from_sheet), and
+// the promises; proofs/ proves them.
 //
 // specs/:
 //

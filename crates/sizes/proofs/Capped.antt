@@ -10,7 +10,7 @@ use Rattle.wire.specs.Length.{wire_size}
 use Rattle.wire.specs.Padding.{aligned}
 use Rattle.wire.proofs.PaddingLaws.{le-aligned, padding-below}
 use Rattle.table.specs.declared.tag.Tag.{Tag}
-use Rattle.table.specs.declared.tag.Tag.TheVariants.{PlainContents, PackedContents, Names, Arguments, Unknown, Content, Name, Pair, None}
+use Rattle.table.specs.declared.tag.Tag.TheVariants.{PlainContents, PackedContents, Names, Arguments, Unknown, Content, Name, Pair}
 use Rattle.format.specs.Encoding.{limit}
 use Rattle.sizes.specs.Measure.{capped, opened, added}
 
@@ -55,7 +55,6 @@ opened-capped Unknown n = capped-twice limit n (λ k. 8 + k) (λ k. omega arith)
 opened-capped Content n = refl
 opened-capped Name n = refl
 opened-capped Pair n = refl
-opened-capped None n = refl
 
 pub added-capped :
     (t : Tag) (current a b : ℕ) → capped limit (current + added t (capped limit a) (capped limit b)) ≡ capped limit (current + added t a b)
@@ -70,7 +69,6 @@ added-capped Name current a b = capped-twice limit a (λ k. current + aligned (1
 added-capped Pair current a b =
     capped-twice limit a (λ k. current + (wire_size k + wire_size (capped limit b))) (λ k. omega arith) ∙
     capped-twice limit b (λ k. current + (wire_size a + wire_size k)) (λ k. omega arith)
-added-capped None current a b = refl
 
 -- the lengths that a record was given, in place of the capped ones
 pub ruleset capped_first = (opened-capped, added-capped)

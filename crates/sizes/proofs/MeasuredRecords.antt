@@ -2,7 +2,7 @@
 -- kept, with what the records that are left add to it, is within the limits exactly where the sections are; a size that was capped is past its limit
 -- either way.
 -- Assumes nothing.
-use Rattle.std.specs.Prelude.{Err, Ok}
+use Rattle.std.specs.Prelude.{Option, Some, None, Err, Ok}
 use Prim.Native.Nat.{ℕ, ◌+◌, ◌≤◌}
 use mathlib.Core.Bool.{Bool, true, false, cond, not, and-eq-true_iff, ◌&&◌, ◌||◌}
 use mathlib.Core.List.{List, [], ◌∷◌, ◌++◌, flat_map}
@@ -18,16 +18,15 @@ use Rattle.wire.specs.Padding.{aligned}
 use Rattle.wire.proofs.PaddingLaws.{le-aligned, aligned-of-multiple}
 use Rattle.layout.specs.Checked.{check}
 use Rattle.layout.specs.declared.refusal.Refusal.TheVariants.{WontFit}
-use Rattle.table.specs.Tags.{same_tag, entry_tag, begins_section}
+use Rattle.table.specs.Tags.{same_tag, entry_tag, entry_after, begins_section}
 use Rattle.table.specs.declared.tag.Tag.{Tag}
-use Rattle.table.specs.declared.tag.Tag.TheVariants.{PlainContents, PackedContents, Names, Arguments, Unknown, Content, Name, Pair, None}
+use Rattle.table.specs.declared.tag.Tag.TheVariants.{PlainContents, PackedContents, Names, Arguments, Unknown, Content, Name, Pair}
 use Rattle.table.proofs.Tags.{same_tag_lem, tag_same, other_tag, tag-discrete, section-no-entry}
 use Rattle.format.specs.Encoding.{limit, encode_section, encode, countable, all_countable, within_limits}
 use Rattle.format.specs.Records.{Record, text, leading, sections, is_placed, in_order}
-use Rattle.format.specs.Rules.{follows}
 use Rattle.format.specs.Sections.{Section}
 use Rattle.format.proofs.Encoding.{length-encode, limits-good, limits-found}
-use Rattle.format.proofs.Records.{begins-none}
+use Rattle.format.proofs.Records.{begins-none, some_same}
 use Rattle.format.proofs.RecordsByTag.{leading-more, leading-ends}
 use Rattle.sizes.proofs.Capped.{capped_small, small-capped}
 use Rattle.sizes.proofs.SectionSizes.{opens, adds, sum, entries_size, none-add, begins}
@@ -37,7 +36,7 @@ use Rattle.sizes.specs.declared.sizes.Sizes.{Sizes}
 -- ---- what is measured, with what the records that are left add
 
 abbrev left : Sizes → List Record → ℕ
-left m rs = m.current + entries_size (entry_tag m.previous) rs
+left m rs = m.current + entries_size (entry_after m.previous) rs
 
 abbrev total : Sizes → List Record → ℕ
 total m rs = m.complete + (aligned (left m rs) + length (flat_map encode_section (sections rs)))
@@ -46,13 +45,13 @@ total m rs = m.complete + (aligned (left m rs) + length (flat_map encode_section
 record Fit (m : Sizes) (rs : List Record) : Type 0 where
   few : m.sections + length (sections rs) ≤ count_limit
   narrow : m.wide ≡ false
-  entries : entry_tag m.previous ≡ Name → left m rs ≤ widest
+  entries : entry_after m.previous ≡ Some Name → left m rs ≤ widest
   all : all_countable (sections rs) ≡ true
   small : total m rs ≤ limit
 
 -- what was found narrow is
 abbrev Sound : Sizes → Type 0
-Sound m = m.wide ≡ false → entry_tag m.previous ≡ Name → m.current ≤ widest
+Sound m = m.wide ≡ false → entry_after m.previous ≡ Some Name → m.current ≤ widest
 
 -- a record counted: one that begins a section, one that is an entry, and any
 abbrev opening : Sizes → Record → Sizes
@@ -74,28 +73,28 @@ or-false : (a b : Bool) → (a || b) ≡ false → (a ≡ false) × (b ≡ false
 or-false true b e = cc
 or-false false b e = (refl, e)
 
-still-narrow : (t : Tag) (size : ℕ) → (t ≡ Name → size ≤ widest) → (same_tag t Name && ltb widest size) ≡ false
+still-narrow : (t : Tag) (size : ℕ) → (t ≡ Name → size ≤ widest) → (same_tag (Some t) (Some Name) && ltb widest size) ≡ false
 still-narrow t size h =
-    elim (tag-discrete t Name) [
-      | yes q ↦ rw (same_tag_lem t Name q, le-ltb widest size (h q))
-      | no n ↦ rw (other_tag t Name n)
+    elim (tag-discrete (Some t) (Some Name)) [
+      | yes q ↦ rw (same_tag_lem (Some t) (Some Name) q, le-ltb widest size (h (some_same q)))
+      | no n ↦ rw (other_tag (Some t) (Some Name) n)
     ]
 
 -- ---- a record
 
 -- after an entry others of its tag may stand
-entry-again : (t : Tag) → entry_tag (entry_tag t) ≡ entry_tag t
-entry-again PlainContents = refl
-entry-again PackedContents = refl
-entry-again Names = refl
-entry-again Arguments = refl
-entry-again Unknown = refl
-entry-again Content = refl
-entry-again Name = refl
-entry-again Pair = refl
+entry-again : (previous : Option Tag) → entry_after (entry_after previous) ≡ entry_after previous
 entry-again None = refl
+entry-again (Some PlainContents) = refl
+entry-again (Some PackedContents) = refl
+entry-again (Some Names) = refl
+entry-again (Some Arguments) = refl
+entry-again (Some Unknown) = refl
+entry-again (Some Content) = refl
+entry-again (Some Name) = refl
+entry-again (Some Pair) = refl
 
-names-begin : (t : Tag) → begins_section t ≡ true → entry_tag t ≡ Name → (first : ℕ) → opened t first ≡ 18
+names-begin : (t : Tag) → begins_section t ≡ true → entry_tag t ≡ Some Name → (first : ℕ) → opened t first ≡ 18
 unfolding opened
 names-begin PlainContents b q first = cc
 names-begin PackedContents b q first = cc
@@ -105,26 +104,25 @@ names-begin Unknown b q first = cc
 names-begin Content b q first = cc
 names-begin Name b q first = cc
 names-begin Pair b q first = cc
-names-begin None b q first = cc
 
 module _ (m : Sizes) (r : Record) (rs : List Record) where
   abbrev t : Tag
   t = r.tag
 
   -- one that is an entry
-  module _ (entry : begins_section t ≡ false) (own : entry_tag m.previous ≡ t) where
+  module _ (entry : begins_section t ≡ false) (own : entry_after m.previous ≡ Some t) where
     abbrev current : ℕ
-    current = m.current + adds t r
+    current = m.current + adds r
 
     abbrev extended : Sizes
     extended = extending m r
 
-    fixed : entry_tag t ≡ t
+    fixed : entry_tag t ≡ Some t
     fixed = rw own at (entry-again m.previous)
 
-    entries-add : entries_size (entry_tag m.previous) (r ∷ rs) ≡ adds t r + entries_size (entry_tag t) rs
+    entries-add : entries_size (entry_after m.previous) (r ∷ rs) ≡ adds r + entries_size (entry_tag t) rs
     unfolding entries_size sum
-    entries-add = rw (own, fixed) (ap sum (leading-more t (adds t) r rs refl))
+    entries-add = rw (own, fixed) (ap sum (leading-more (Some t) adds r rs refl))
 
     same-sections : sections (r ∷ rs) ≡ sections rs
     unfolding sections
@@ -158,14 +156,14 @@ module _ (m : Sizes) (r : Record) (rs : List Record) where
               let (same, whole, sum) = uncapped cap in
               record {
                 few = rw (← same-sections) f.few;
-                narrow = rw f.narrow (still-narrow t (capped limit current) (λ q. omega (arith, same, entries-add, f.entries (own ∙ q))));
+                narrow = rw f.narrow (still-narrow t (capped limit current) (λ q. omega (arith, same, entries-add, f.entries (own ∙ ap Some q))));
                 entries = λ q. rw (← whole) (f.entries (own ∙ sym fixed ∙ q));
                 all = rw (← same-sections) f.all;
                 small = rw sum f.small;
               };
           sound = λ e q.
-              let name : t ≡ Name = sym fixed ∙ q in
-              ltb-false widest (capped limit current) (rw (same_tag_lem t Name name) at (or-false m.wide _ e).1);
+              let name : Some t ≡ Some Name = sym fixed ∙ q in
+              ltb-false widest (capped limit current) (rw (same_tag_lem (Some t) (Some Name) name) at (or-false m.wide _ e).1);
         }
 
   -- one that begins a section
@@ -183,7 +181,7 @@ module _ (m : Sizes) (r : Record) (rs : List Record) where
     ended : left m (r ∷ rs) ≡ m.current
     unfolding entries_size sum
     ended =
-        let none = leading-ends (entry_tag m.previous) (adds (entry_tag m.previous)) r rs (λ q. section-no-entry t m.previous low q) in
+        let none = leading-ends (entry_after m.previous) adds r rs (λ q. section-no-entry (Some t) m.previous low q) in
         omega (arith, ap sum none)
 
     begin-same : Same m opened-sizes r rs
@@ -232,19 +230,17 @@ module _ (m : Sizes) (r : Record) (rs : List Record) where
 
 -- ---- records
 
-pub next-tag : (m : Sizes) (t : Tag) (first second : ℕ) → (advance m t first second).previous ≡ t
+pub next-tag : (m : Sizes) (t : Tag) (first second : ℕ) → (advance m t first second).previous ≡ Some t
 unfolding advance
 next-tag m t first second = go (begins_section t)
   where
-    go : (b : Bool) → (cond b (begin m t first) (extend m t first second)).previous ≡ t
+    go : (b : Bool) → (cond b (begin m t first) (extend m t first second)).previous ≡ Some t
     go true = refl
     go false = refl
 
 -- an entry stands where one of its tag may
-placed : (previous own : Tag) → begins_section own ≡ false → is_placed previous own ≡ true → entry_tag previous ≡ own
-placed previous own entry e =
-    let (some, stands) = (and-eq-true_iff (not (same_tag own None)) (begins_section own || follows own previous)).0 e in
-    tag_same (entry_tag previous) own (rw entry at stands)
+placed : (previous : Option Tag) (own : Tag) → begins_section own ≡ false → is_placed previous own ≡ true → entry_after previous ≡ Some own
+placed previous own entry e = tag_same (entry_after previous) (Some own) (rw entry at e)
 
 next-same : (m : Sizes) (r : Record) (rs : List Record) → is_placed m.previous r.tag ≡ true → Sound m → Same m (next m r) r rs
 unfolding advance
@@ -296,7 +292,7 @@ outcome : (rs : List Record) (m : Sizes) → in_order m.previous rs ≡ true →
 unfolding in_order measure_records
 outcome [] m e sound = ended-outcome m sound
 outcome (r ∷ rs) m e sound =
-    let (here, rest) = (and-eq-true_iff (is_placed m.previous r.tag) (in_order r.tag rs)).0 e in
+    let (here, rest) = (and-eq-true_iff (is_placed m.previous r.tag) (in_order (Some r.tag) rs)).0 e in
     let same = next-same m r rs here sound in
     ⊎_elim
     (λ w. inl ((same.back w.0).0, w.1 ∙ ap Ok (same.back w.0).1))

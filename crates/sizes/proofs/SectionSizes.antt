@@ -1,5 +1,6 @@
 -- The size of a section, from the lengths of its record and of the records of its entries.
 -- Assumes nothing.
+use Rattle.std.specs.Prelude.{Option, Some, None}
 use Prim.Native.Nat.{ℕ, ◌+◌, ◌≤◌}
 use mathlib.Core.Bool.{true}
 use mathlib.Core.List.{List, [], ◌∷◌, flat_map}
@@ -16,16 +17,17 @@ use Rattle.format.specs.Encoding.{content_entry, name_entry, pair_entry, stored_
 use Rattle.format.specs.Records.{Record, number, text, name_of, pair_of, leading, begun}
 use Rattle.format.specs.Sections.{Name, Section, plain, packed, names, arguments, unknown}
 use Rattle.format.proofs.Encoding.{length-content_entry, length-name_entry, length-pair_entry}
+use Rattle.format.proofs.Records.{some_same, leading-no-tag}
 use Rattle.format.proofs.RecordsByTag.{leading-more, leading-ends}
 use Rattle.format.proofs.SectionBytes.{length-section}
 use Rattle.sizes.specs.Measure.{opened, added, count_limit, widest}
 
--- what a record of a tag opens or adds
+-- what a record of a tag opens, and what a record adds
 abbrev pub opens : Tag → Record → ℕ
 opens t r = opened t (length (text 0 r))
 
-abbrev pub adds : Tag → Record → ℕ
-adds t r = added t (length (text 0 r)) (length (text 1 r))
+abbrev pub adds : Record → ℕ
+adds r = added r.tag (length (text 0 r)) (length (text 1 r))
 
 -- ---- sums of entries
 
@@ -34,38 +36,33 @@ sum [] = 0
 sum (n ∷ l) = n + sum l
 
 -- what the entries of a tag at the start of some records add
-unfoldable pub entries_size : Tag → List Record → ℕ
-entries_size t rs = sum (leading t (adds t) rs)
+unfoldable pub entries_size : Option Tag → List Record → ℕ
+entries_size t rs = sum (leading t adds rs)
 
 entries-length :
     {A : Type 0} (t : Tag) (f : Record → A) (bytes : A → List ℕ) →
-    ((r : Record) → length (bytes (f r)) ≡ adds t r) →
+    ((r : Record) → r.tag ≡ t → length (bytes (f r)) ≡ adds r) →
     (rs : List Record) →
-    length (flat_map bytes (leading t f rs)) ≡ entries_size t rs
+    length (flat_map bytes (leading (Some t) f rs)) ≡ entries_size (Some t) rs
 unfolding flat_map entries_size sum
 entries-length t f bytes same [] = unfold leading in refl
 entries-length t f bytes same (r ∷ rs) =
     let rest = entries-length t f bytes same rs in
-    elim (tag-discrete r.tag t) [
+    elim (tag-discrete (Some r.tag) (Some t)) [
       | yes q ↦
-          ap (λ (l : List _). length (flat_map bytes l)) (leading-more t f r rs q) ∙
-          length-append (bytes (f r)) (flat_map bytes (leading t f rs)) ∙
-          ap₂ ◌+◌ (same r) rest ∙
-          ap sum (sym (leading-more t (adds t) r rs q))
+          ap (λ (l : List _). length (flat_map bytes l)) (leading-more (Some t) f r rs q) ∙
+          length-append (bytes (f r)) (flat_map bytes (leading (Some t) f rs)) ∙
+          ap₂ ◌+◌ (same r (some_same q)) rest ∙
+          ap sum (sym (leading-more (Some t) adds r rs q))
       | no n ↦
-          ap (λ (l : List _). length (flat_map bytes l)) (leading-ends t f r rs n) ∙
-          ap sum (sym (leading-ends t (adds t) r rs n))
+          ap (λ (l : List _). length (flat_map bytes l)) (leading-ends (Some t) f r rs n) ∙
+          ap sum (sym (leading-ends (Some t) adds r rs n))
     ]
 
--- the tag of no record adds nothing
-pub none-add : (rs : List Record) → entries_size tag.None rs ≡ 0
-unfolding entries_size sum added
-none-add [] = unfold leading in refl
-none-add (r ∷ rs) =
-    elim (tag-discrete r.tag tag.None) [
-      | yes q ↦ omega (arith, ap sum (leading-more tag.None (adds tag.None) r rs q), none-add rs)
-      | no n ↦ ap sum (leading-ends tag.None (adds tag.None) r rs n)
-    ]
+-- where no entries may stand, there are none that add anything
+pub none-add : (rs : List Record) → entries_size None rs ≡ 0
+unfolding entries_size sum
+none-add rs = ap sum (leading-no-tag adds rs)
 
 -- ---- a section's size, from its record and its entries
 
@@ -74,22 +71,22 @@ pub record Begins (t : Tag) (r : Record) (rs : List Record) : Type 0 where
   pub is : Section
   pub one : begun t r rs ≡ is ∷ []
   pub size : length (encode_section is) ≡ aligned (opens t r + entries_size (entry_tag t) rs)
-  pub narrow : countable is ≡ true → entry_tag t ≡ tag.Name → opens t r + entries_size (entry_tag t) rs ≤ widest
-  pub counted : (entry_tag t ≡ tag.Name → opens t r + entries_size (entry_tag t) rs ≤ widest) → countable is ≡ true
+  pub narrow : countable is ≡ true → entry_tag t ≡ Some tag.Name → opens t r + entries_size (entry_tag t) rs ≤ widest
+  pub counted : (entry_tag t ≡ Some tag.Name → opens t r + entries_size (entry_tag t) rs ≤ widest) → countable is ≡ true
 
 pub begins : (t : Tag) (r : Record) (rs : List Record) → begins_section t ≡ true → Begins t r rs
 unfolding begun opened added stored_bytes countable
 begins tag.PlainContents r rs low =
-    let run = entries-length tag.Content (text 0) content_entry (λ q. length-content_entry (text 0 q)) rs in
-    let s : Section = plain (number 0 r) (leading tag.Content (text 0) rs) in
+    let run = entries-length tag.Content (text 0) content_entry (λ q e. rw e (length-content_entry (text 0 q))) rs in
+    let s : Section = plain (number 0 r) (leading (Some tag.Content) (text 0) rs) in
     record { is = s; one = refl; size = length-section s ∙ rw run; narrow = λ f q. cc; counted = λ f. refl }
 begins tag.PackedContents r rs low =
     let s : Section = packed (number 0 r) (text 0 r) (number 1 r) (number 2 r) in
-    let all : 28 + length (text 0 r) ≡ 28 + length (text 0 r) + entries_size tag.None rs = omega (arith, none-add rs) in
+    let all : 28 + length (text 0 r) ≡ 28 + length (text 0 r) + entries_size None rs = omega (arith, none-add rs) in
     record { is = s; one = refl; size = length-section s ∙ ap aligned all; narrow = λ f q. cc; counted = λ f. refl }
 begins tag.Names r rs low =
-    let run = entries-length tag.Name name_of name_entry (λ q. length-name_entry (name_of q)) rs in
-    let ns : List Name = leading tag.Name name_of rs in
+    let run = entries-length tag.Name name_of name_entry (λ q e. rw e (length-name_entry (name_of q))) rs in
+    let ns : List Name = leading (Some tag.Name) name_of rs in
     let s : Section = names ns in
     record {
       is = s;
@@ -99,14 +96,13 @@ begins tag.Names r rs low =
       counted = λ f. le-leb (length (flat_map name_entry ns)) count_limit (omega (arith, run, f refl));
     }
 begins tag.Arguments r rs low =
-    let run = entries-length tag.Pair pair_of pair_entry (λ q. length-pair_entry (pair_of q)) rs in
-    let s : Section = arguments (leading tag.Pair pair_of rs) in
+    let run = entries-length tag.Pair pair_of pair_entry (λ q e. rw e (length-pair_entry (pair_of q))) rs in
+    let s : Section = arguments (leading (Some tag.Pair) pair_of rs) in
     record { is = s; one = refl; size = length-section s ∙ rw run; narrow = λ f q. cc; counted = λ f. refl }
 begins tag.Unknown r rs low =
     let s : Section = unknown (number 0 r) (text 0 r) in
-    let all : 8 + length (text 0 r) ≡ 8 + length (text 0 r) + entries_size tag.None rs = omega (arith, none-add rs) in
+    let all : 8 + length (text 0 r) ≡ 8 + length (text 0 r) + entries_size None rs = omega (arith, none-add rs) in
     record { is = s; one = refl; size = length-section s ∙ ap aligned all; narrow = λ f q. cc; counted = λ f. refl }
 begins tag.Content r rs low = cc
 begins tag.Name r rs low = cc
 begins tag.Pair r rs low = cc
-begins tag.None r rs low = cc

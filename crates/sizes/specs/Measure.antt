@@ -1,13 +1,13 @@
 -- Measuring, record by record: what is kept, how a record changes it, and what it comes to. That this is the length of what the records' sections
 -- encode to is a theorem (proofs/MeasuredRecords.antt).
-use Rattle.std.specs.Prelude.{ℕ, ◌+◌, Bool, false, cond, not, ◌&&◌, ◌||◌, List, [], ◌∷◌, leb, ltb, length, Ok}
+use Rattle.std.specs.Prelude.{ℕ, ◌+◌, Bool, false, cond, not, ◌&&◌, ◌||◌, List, [], ◌∷◌, leb, ltb, length, Option, Some, None, Ok}
 use Rattle.wire.specs.Length.{wire_size}
 use Rattle.wire.specs.Padding.{aligned}
 use Rattle.layout.specs.Checked.{Checked, check, taking}
 use Rattle.layout.specs.declared.refusal.Refusal.TheVariants.{WontFit}
 use Rattle.table.specs.Tags.{same_tag, begins_section}
 use Rattle.table.specs.declared.tag.Tag.{Tag}
-use Rattle.table.specs.declared.tag.Tag.TheVariants.{PlainContents, PackedContents, Names, Arguments, Unknown, Content, Name, Pair, None}
+use Rattle.table.specs.declared.tag.Tag.TheVariants.{PlainContents, PackedContents, Names, Arguments, Unknown, Content, Name, Pair}
 use Rattle.format.specs.Encoding.{limit}
 use Rattle.format.specs.Records.{Record, text}
 use Rattle.sizes.specs.declared.sizes.Sizes.{Sizes}
@@ -31,7 +31,6 @@ opened Unknown first = 8 + first
 opened Content first = 0
 opened Name first = 0
 opened Pair first = 0
-opened None first = 0
 
 -- the bytes of the entry that a record of a tag is, with a text of the first length, and a pair's value of the second
 unfoldable pub added : Tag → ℕ → ℕ → ℕ
@@ -43,9 +42,8 @@ added Unknown first second = 0
 added Content first second = aligned (12 + wire_size first)
 added Name first second = aligned (16 + wire_size first)
 added Pair first second = wire_size first + wire_size second
-added None first second = 0
 
-abbrev pub sizes : Tag → ℕ → ℕ → ℕ → Bool → Sizes
+abbrev pub sizes : Option Tag → ℕ → ℕ → ℕ → Bool → Sizes
 sizes previous sections complete current wide =
     record { previous = previous; sections = sections; complete = complete; current = current; wide = wide }
 
@@ -56,7 +54,7 @@ count_limit = 65535
 -- a record of a tag that begins a section closes the one before
 abbrev pub begin : Sizes → Tag → ℕ → Sizes
 begin m t first =
-    sizes t (capped count_limit (m.sections + 1)) (capped limit (m.complete + aligned m.current)) (capped limit (opened t first)) m.wide
+    sizes (Some t) (capped count_limit (m.sections + 1)) (capped limit (m.complete + aligned m.current)) (capped limit (opened t first)) m.wide
 
 -- the entry bytes of names stand after headers of 18
 abbrev pub widest : ℕ
@@ -66,7 +64,7 @@ widest = 18 + count_limit
 abbrev pub extend : Sizes → Tag → ℕ → ℕ → Sizes
 extend m t first second =
     let current : ℕ = capped limit (m.current + added t first second) in
-    sizes t m.sections m.complete current (m.wide || (same_tag t Name && ltb widest current))
+    sizes (Some t) m.sections m.complete current (m.wide || (same_tag (Some t) (Some Name) && ltb widest current))
 
 unfoldable pub advance : Sizes → Tag → ℕ → ℕ → Sizes
 advance m t first second = cond (begins_section t) (begin m t first) (extend m t first second)

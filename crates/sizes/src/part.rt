@@ -31,14 +31,11 @@ pub(crate) fn align(length: usize) -> usize
 pub(crate) fn opened_size(tag: Tag, first: u32) -> usize
     ensures { result ≡ opened tag first }
 {
+    let headers = tag.headers_size();
     match tag {
-        Tag::PlainContents => SourceInfoSectionType::CONTENTS_START,
-        Tag::PackedContents => SourceInfoSectionType::CONTENTS_START + first as usize,
-        Tag::Names => SourceInfoSectionType::NAMES_START,
-        Tag::Arguments => SourceInfoSectionType::ARGS_START,
-        Tag::Unknown => SourceInfoSectionType::SECTION_HEADER_SIZE + first as usize,
-        // an entry begins none
-        _ => 0,
+        Tag::PackedContents | Tag::Unknown => headers + first as usize,
+        // a section that has entries, or an entry, which begins none
+        _ => headers,
     }
 }
 

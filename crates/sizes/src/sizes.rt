@@ -13,11 +13,12 @@ const COUNT_LIMIT: usize = 65_535;
 // The most bytes of a names section, without its padding.
 const NAMES_LIMIT: usize = SourceInfoSectionType::NAMES_START + COUNT_LIMIT;
 
-// What was measured so far.
+// What was measured so far. What is past a limit is kept and not refused at once, since a later record may have a fault that
+// goes first.
 #[derive(Clone, Copy)]
 pub struct Sizes {
-    // The tag of the record before.
-    pub previous: Tag,
+    // The tag of the record before, if there was one.
+    pub previous: Option<Tag>,
     // How many sections there are.
     pub sections: u32,
     // Bytes of the main header and of the sections that are complete.
@@ -34,7 +35,7 @@ impl Sizes {
         ensures { result ≡ nothing }
     {
         Sizes {
-            previous: Tag::None,
+            previous: None,
             sections: 0,
             complete: SourceInfoSectionType::MAIN_HEADER_SIZE as u32,
             current: 0,
@@ -47,7 +48,7 @@ impl Sizes {
         ensures { result ≡ begin self tag first }
     {
         Sizes {
-            previous: tag,
+            previous: Some(tag),
             sections: cap(COUNT_LIMIT, self.sections as usize + 1),
             complete: cap(
                 PAYLOAD_LIMIT,
@@ -59,6 +60,7 @@ impl Sizes {
     }
 
     // An entry adds to the section that is not complete.
+    #[tactic(auto, using(table::proofs::Tags::same_tags))]
     fn extend(self, tag: Tag, first: u32, second: u32) -> Sizes
         ensures { result ≡ extend self tag first second }
     {
@@ -67,9 +69,9 @@ impl Sizes {
             self.current as usize + added_size(tag, first, second),
         );
         Sizes {
-            previous: tag,
+            previous: Some(tag),
             current,
-            wide: self.wide | (tag.same(Tag::Name) & (NAMES_LIMIT < current as usize)),
+            wide: self.wide | ((tag == Tag::Name) & (NAMES_LIMIT < current as usize)),
             ..self
         }
     }

@@ -2,10 +2,11 @@
 use Prim.Native.Nat.{zero, suc}
 use mathlib.Core.Path.{refl}
 use native.Mathlib.Omega.{arith}
+use borrow.Author.Tests.{le-ltb}
 use lib.Seq.{get_or-set_same}
 use Rattle.table.specs.Promises.{NumberHasTag, TagHasNumber, TableKeepsRows, RowsKeepTable, StoredRowIsThere}
 use Rattle.table.specs.Rows.{no_row, rows_of}
-use Rattle.table.specs.declared.tag.Tag.TheVariants.{PlainContents, PackedContents, Names, Arguments, Unknown, Content, Name, Pair, None}
+use Rattle.table.specs.declared.tag.Tag.TheVariants.{PlainContents, PackedContents, Names, Arguments, Unknown, Content, Name, Pair}
 use Rattle.table.proofs.Rows.{length-rows_of, rows_of-table_of, table_of-rows_of, rows_of-store_row}
 
 pub number-has-tag : NumberHasTag
@@ -17,18 +18,17 @@ number-has-tag Unknown = refl
 number-has-tag Content = refl
 number-has-tag Name = refl
 number-has-tag Pair = refl
-number-has-tag None = refl
 
 pub tag-has-number : TagHasNumber
-tag-has-number zero h = refl
-tag-has-number (suc zero) h = refl
-tag-has-number (suc (suc zero)) h = refl
-tag-has-number (suc (suc (suc zero))) h = refl
-tag-has-number (suc (suc (suc (suc zero)))) h = refl
-tag-has-number (suc (suc (suc (suc (suc zero))))) h = refl
-tag-has-number (suc (suc (suc (suc (suc (suc zero)))))) h = refl
-tag-has-number (suc (suc (suc (suc (suc (suc (suc zero))))))) h = refl
-tag-has-number (suc (suc (suc (suc (suc (suc (suc (suc n)))))))) h = absurd (omega arith)
+tag-has-number zero = refl
+tag-has-number (suc zero) = refl
+tag-has-number (suc (suc zero)) = refl
+tag-has-number (suc (suc (suc zero))) = refl
+tag-has-number (suc (suc (suc (suc zero)))) = refl
+tag-has-number (suc (suc (suc (suc (suc zero))))) = refl
+tag-has-number (suc (suc (suc (suc (suc (suc zero)))))) = refl
+tag-has-number (suc (suc (suc (suc (suc (suc (suc zero))))))) = refl
+tag-has-number (suc (suc (suc (suc (suc (suc (suc (suc n)))))))) = rw (le-ltb (suc (suc (suc (suc (suc (suc (suc (suc n)))))))) 8 (omega arith)) refl
 
 pub table-keeps-rows : TableKeepsRows
 table-keeps-rows rs = rows_of-table_of rs

@@ -1,30 +1,44 @@
--- Tags are told apart by their numbers; and which number stands for no tag.
+-- Tags are told apart by their numbers.
 -- Assumes nothing.
-use Prim.Native.Nat.{ℕ, zero, suc, ◌≤◌}
-use mathlib.Core.Bool.{true, false}
+use Rattle.std.specs.Prelude.{Option, Some, None}
+use Prim.Native.Nat.{ℕ}
+use mathlib.Core.Bool.{Bool, true, false}
 use mathlib.Core.Path.{◌≡◌, refl, sym, ap, ◌∙◌}
-use native.Mathlib.Decide.{map_dec, ℕ_discrete}
 use native.Mathlib.Omega.{arith}
 use borrow.Author.Tests.{eq-eqb, ne_eqb, eqb-true}
 use denote.Enum.Bare.{sameb}
 use denote.Enum.Declared.{tag_of as variant_of}
+use Rattle.std.specs.Option.{option_eq}
 use Rattle.table.specs.contracts.tag.Tag.{the_type}
-use Rattle.table.specs.Tags.{tag_of, tag_number, same_tag, entry_tag, begins_section}
+use Rattle.table.specs.Tags.{tag_of, tag_number, same_tag, entry_after, opens_section}
 use Rattle.table.specs.declared.tag.Tag.{Tag}
-use Rattle.table.specs.declared.tag.Tag.TheVariants.{PlainContents, PackedContents, Names, Arguments, Unknown, Content, Name, Pair, None}
+use Rattle.table.specs.declared.tag.Tag.TheVariants.{PlainContents, PackedContents, Names, Arguments, Unknown, Content, Name, Pair}
 use Rattle.table.proofs.Promises.{number-has-tag}
 
-pub same_tag_lem : (a b : Tag) → a ≡ b → same_tag a b ≡ true
-unfolding same_tag
-same_tag_lem a b e = eq-eqb (tag_number a) (tag_number b) (ap tag_number e)
+-- equal numbers are of equal tags
+number-own : (a b : Tag) → tag_number a ≡ tag_number b → ◌≡◌ {A = Option Tag} (Some a) (Some b)
+number-own a b e = sym (number-has-tag a) ∙ ap tag_of e ∙ number-has-tag b
 
-pub tag_same : (a b : Tag) → same_tag a b ≡ true → a ≡ b
+pub same_tag_lem : (a b : Option Tag) → a ≡ b → same_tag a b ≡ true
 unfolding same_tag
-tag_same a b e = sym (number-has-tag a) ∙ ap tag_of (eqb-true (tag_number a) (tag_number b) e) ∙ number-has-tag b
+same_tag_lem None None e = refl
+same_tag_lem None (Some b) e = cc
+same_tag_lem (Some a) None e = cc
+same_tag_lem (Some a) (Some b) e = let q : a ≡ b = cc in eq-eqb (tag_number a) (tag_number b) (ap tag_number q)
 
-pub other_tag : (a b : Tag) → (a ≡ b → ⊥) → same_tag a b ≡ false
+pub tag_same : (a b : Option Tag) → same_tag a b ≡ true → a ≡ b
 unfolding same_tag
-other_tag a b n = ne_eqb (tag_number a) (tag_number b) (λ q. n (sym (number-has-tag a) ∙ ap tag_of q ∙ number-has-tag b))
+tag_same None None e = refl
+tag_same None (Some b) e = cc
+tag_same (Some a) None e = cc
+tag_same (Some a) (Some b) e = number-own a b (eqb-true (tag_number a) (tag_number b) e)
+
+pub other_tag : (a b : Option Tag) → (a ≡ b → ⊥) → same_tag a b ≡ false
+unfolding same_tag
+other_tag None None n = absurd (n refl)
+other_tag None (Some b) n = refl
+other_tag (Some a) None n = refl
+other_tag (Some a) (Some b) n = ne_eqb (tag_number a) (tag_number b) (λ q. n (number-own a b q))
 
 -- `a == b` of the code is the test of the definition
 number-is : (t : Tag) → variant_of the_type t ≡ tag_number t
@@ -36,54 +50,43 @@ number-is Unknown = refl
 number-is Content = refl
 number-is Name = refl
 number-is Pair = refl
-number-is None = refl
 
-pub tag_eq : (a b : Tag) → sameb the_type a b ≡ same_tag a b
+pub tag_eq : (a b : Tag) → sameb the_type a b ≡ same_tag (Some a) (Some b)
 unfolding same_tag
 tag_eq a b = rw (number-is a, number-is b)
 
--- what code with `a == b` knows, as a value and in the arms of an `if`, decides the test of the definition
-pub ruleset same_tags = (tag_eq, same_tag_lem, other_tag)
+pub tags_eq : (a b : Option Tag) → option_eq (sameb the_type) a b ≡ same_tag a b
+unfolding same_tag
+tags_eq None None = refl
+tags_eq None (Some b) = refl
+tags_eq (Some a) None = refl
+tags_eq (Some a) (Some b) = rw (number-is a, number-is b)
 
-pub tag-discrete : Discrete Tag
-tag-discrete a b = map_dec (λ q. sym (number-has-tag a) ∙ ap tag_of q ∙ number-has-tag b) (λ e. ap tag_number e) (ℕ_discrete (tag_number a) (tag_number b))
+-- what code with `a == b` knows, as a value and in the arms of an `if`, decides the test of the definition
+pub ruleset same_tags = (tag_eq, tags_eq, same_tag_lem, other_tag)
+
+pub tag-discrete : Discrete (Option Tag)
+tag-discrete a b = go (same_tag a b) refl
+  where
+    go : (t : Bool) → same_tag a b ≡ t → Dec (a ≡ b)
+    go true e = yes (tag_same a b e)
+    go false e = no (λ q. let z : same_tag a b ≡ true = same_tag_lem a b q in cc)
 
 -- no section is an entry
-pub entry-begins-none : (t : Tag) → begins_section (entry_tag t) ≡ false
-entry-begins-none PlainContents = refl
-entry-begins-none PackedContents = refl
-entry-begins-none Names = refl
-entry-begins-none Arguments = refl
-entry-begins-none Unknown = refl
-entry-begins-none Content = refl
-entry-begins-none Name = refl
-entry-begins-none Pair = refl
+pub entry-begins-none : (t : Option Tag) → opens_section (entry_after t) ≡ false
 entry-begins-none None = refl
+entry-begins-none (Some PlainContents) = refl
+entry-begins-none (Some PackedContents) = refl
+entry-begins-none (Some Names) = refl
+entry-begins-none (Some Arguments) = refl
+entry-begins-none (Some Unknown) = refl
+entry-begins-none (Some Content) = refl
+entry-begins-none (Some Name) = refl
+entry-begins-none (Some Pair) = refl
 
 -- so the tag of a section is not that of the entries after any row
-pub section-no-entry : (t previous : Tag) → begins_section t ≡ true → t ≡ entry_tag previous → ⊥
+pub section-no-entry : (t previous : Option Tag) → opens_section t ≡ true → t ≡ entry_after previous → ⊥
 section-no-entry t previous b e =
-    let other : begins_section t ≡ false = ap begins_section e ∙ entry-begins-none previous in
+    let other : opens_section t ≡ false = ap opens_section e ∙ entry-begins-none previous in
     let z : ◌≡◌ {A = ℕ} 0 1 = cc in
     omega arith
-
--- a number past the last tag's
-pub no-tag : (n : ℕ) → 8 ≤ n → tag_of n ≡ None
-no-tag zero h = absurd (omega arith)
-no-tag (suc zero) h = absurd (omega arith)
-no-tag (suc (suc zero)) h = absurd (omega arith)
-no-tag (suc (suc (suc zero))) h = absurd (omega arith)
-no-tag (suc (suc (suc (suc zero)))) h = absurd (omega arith)
-no-tag (suc (suc (suc (suc (suc zero))))) h = absurd (omega arith)
-no-tag (suc (suc (suc (suc (suc (suc zero)))))) h = absurd (omega arith)
-no-tag (suc (suc (suc (suc (suc (suc (suc zero))))))) h = absurd (omega arith)
-no-tag (suc (suc (suc (suc (suc (suc (suc (suc n)))))))) h = refl
-
--- what the last arm of a `match` is told where the arms before it are for the numbers below k
-abbrev NoneBelow : ℕ → ℕ → Type 0
-NoneBelow zero n = Unit {0}
-NoneBelow (suc k) n = NoneBelow k n × (n ≡ k → ⊥)
-
-pub past-arms : (k n : ℕ) → NoneBelow k n → k ≤ n
-past-arms zero n h = omega arith
-past-arms (suc k) n h = omega (arith, past-arms k n h.0, h.1)

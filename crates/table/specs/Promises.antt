@@ -1,5 +1,5 @@
 -- What the definitions of tags and rows promise of each other. Each is proved under its name in proofs/Promises.antt.
-use Rattle.std.specs.Prelude.{ℕ, ◌/◌, ◌%◌, ◌<◌, ◌≡◌, List, length, get_or}
+use Rattle.std.specs.Prelude.{ℕ, ◌/◌, ◌%◌, ◌<◌, ◌≡◌, List, length, get_or, Some, option_map, cond, ltb, None}
 use Rattle.table.specs.declared.row.Row.{Row}
 use Rattle.table.specs.declared.tag.Tag.{Tag}
 use Rattle.table.specs.Rows.{width, no_row, rows_of, table_of, store_row}
@@ -7,11 +7,11 @@ use Rattle.table.specs.Tags.{tag_of, tag_number}
 
 -- a tag's number stands for it
 abbrev pub NumberHasTag : Type 0
-NumberHasTag = (t : Tag) → tag_of (tag_number t) ≡ t
+NumberHasTag = (t : Tag) → tag_of (tag_number t) ≡ Some t
 
--- a number below 8 is that of the tag that it stands for
+-- a number below 8 is that of the tag that it stands for, and any other stands for none
 abbrev pub TagHasNumber : Type 0
-TagHasNumber = (n : ℕ) → n < 8 → tag_number (tag_of n) ≡ n
+TagHasNumber = (n : ℕ) → option_map tag_number (tag_of n) ≡ cond (ltb n 8) (Some n) None
 
 -- rows are kept as a table
 abbrev pub TableKeepsRows : Type 0

@@ -1,13 +1,13 @@
 -- A table as rows of seven numbers, the row of each tag by what it holds, and the spans that a row names. Only here do a row's numbers stand in a
 -- line.
-use Rattle.std.specs.Prelude.{ℕ, ◌*◌, ◌/◌, cond, ltb, length}
+use Rattle.std.specs.Prelude.{ℕ, ◌*◌, ◌/◌, cond, ltb, length, Option, Some, None}
 use mathlib.Core.List.{List, [], ◌∷◌, flat_map}
 use Rattle.std.proofs.lemmas.List.Edits.{sets}
 use Rattle.layout.specs.Spans.{Span, span}
 use Rattle.table.specs.Tags.{tag_of}
 use Rattle.table.specs.declared.row.Row.{Row}
 use Rattle.table.specs.declared.tag.Tag.{Tag}
-use Rattle.table.specs.declared.tag.Tag.TheVariants.{PlainContents, PackedContents, Names, Arguments, Unknown, Content, Name, Pair, None}
+use Rattle.table.specs.declared.tag.Tag.TheVariants.{PlainContents, PackedContents, Names, Arguments, Unknown, Content, Name, Pair}
 
 -- how many numbers make a row
 abbrev pub width : ℕ
@@ -85,16 +85,16 @@ text_span r = span r.side r.a r.b
 abbrev pub value_span : Row → Span
 value_span r = span r.side r.c r.d
 
--- those of a row of a tag, in order
-unfoldable pub spans_by : Tag → Row → List Span
-spans_by PlainContents r = []
-spans_by PackedContents r = bytes_span r ∷ []
-spans_by Names r = []
-spans_by Arguments r = []
-spans_by Unknown r = bytes_span r ∷ []
-spans_by Content r = text_span r ∷ []
-spans_by Name r = text_span r ∷ []
-spans_by Pair r = text_span r ∷ value_span r ∷ []
+-- those of a row of a tag, in order; a row of no tag has none
+unfoldable pub spans_by : Option Tag → Row → List Span
+spans_by (Some PlainContents) r = []
+spans_by (Some PackedContents) r = bytes_span r ∷ []
+spans_by (Some Names) r = []
+spans_by (Some Arguments) r = []
+spans_by (Some Unknown) r = bytes_span r ∷ []
+spans_by (Some Content) r = text_span r ∷ []
+spans_by (Some Name) r = text_span r ∷ []
+spans_by (Some Pair) r = text_span r ∷ value_span r ∷ []
 spans_by None r = []
 
 abbrev pub spans_of : Row → List Span

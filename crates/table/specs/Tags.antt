@@ -1,21 +1,20 @@
 -- The tags of rows by document 01's names: one type, and one function from a row's number to it.
-use Rattle.std.specs.Prelude.{ℕ, zero, suc, Bool, true, false, eqb}
+use Rattle.std.specs.Prelude.{ℕ, zero, suc, Bool, true, false, eqb, Option, Some, None, option_and_then}
 use Rattle.table.specs.declared.tag.Tag.{Tag}
-use Rattle.table.specs.declared.tag.Tag.TheVariants.{PlainContents, PackedContents, Names, Arguments, Unknown, Content, Name, Pair, None}
+use Rattle.table.specs.declared.tag.Tag.TheVariants.{PlainContents, PackedContents, Names, Arguments, Unknown, Content, Name, Pair}
 
--- the tag that a number stands for; a number over 7 is no tag
-abbrev pub tag_of : ℕ → Tag
-tag_of zero = PlainContents
-tag_of (suc zero) = PackedContents
-tag_of (suc (suc zero)) = Names
-tag_of (suc (suc (suc zero))) = Arguments
-tag_of (suc (suc (suc (suc zero)))) = Unknown
-tag_of (suc (suc (suc (suc (suc zero))))) = Content
-tag_of (suc (suc (suc (suc (suc (suc zero)))))) = Name
-tag_of (suc (suc (suc (suc (suc (suc (suc zero))))))) = Pair
+-- the tag that a number stands for; a number over 7 is no tag's. By `suc`, since no numeral can stand in a pattern
+abbrev pub tag_of : ℕ → Option Tag
+tag_of zero = Some PlainContents
+tag_of (suc zero) = Some PackedContents
+tag_of (suc (suc zero)) = Some Names
+tag_of (suc (suc (suc zero))) = Some Arguments
+tag_of (suc (suc (suc (suc zero)))) = Some Unknown
+tag_of (suc (suc (suc (suc (suc zero))))) = Some Content
+tag_of (suc (suc (suc (suc (suc (suc zero)))))) = Some Name
+tag_of (suc (suc (suc (suc (suc (suc (suc zero))))))) = Some Pair
 tag_of (suc (suc (suc (suc (suc (suc (suc (suc n)))))))) = None
 
--- the number of a tag; None has 8, which is no tag's
 abbrev pub tag_number : Tag → ℕ
 tag_number PlainContents = 0
 tag_number PackedContents = 1
@@ -25,24 +24,30 @@ tag_number Unknown = 4
 tag_number Content = 5
 tag_number Name = 6
 tag_number Pair = 7
-tag_number None = 8
 
-unfoldable pub same_tag : Tag → Tag → Bool
-same_tag a b = eqb (tag_number a) (tag_number b)
+-- whether two are one tag, or neither is a tag
+unfoldable pub same_tag : Option Tag → Option Tag → Bool
+same_tag (Some a) (Some b) = eqb (tag_number a) (tag_number b)
+same_tag (Some a) None = false
+same_tag None (Some b) = false
+same_tag None None = true
 
 -- the tag of the entries that may follow a row of a tag; None where none may
-abbrev pub entry_tag : Tag → Tag
-entry_tag PlainContents = Content
+abbrev pub entry_tag : Tag → Option Tag
+entry_tag PlainContents = Some Content
 entry_tag PackedContents = None
-entry_tag Names = Name
-entry_tag Arguments = Pair
+entry_tag Names = Some Name
+entry_tag Arguments = Some Pair
 entry_tag Unknown = None
-entry_tag Content = Content
-entry_tag Name = Name
-entry_tag Pair = Pair
-entry_tag None = None
+entry_tag Content = Some Content
+entry_tag Name = Some Name
+entry_tag Pair = Some Pair
 
--- whether a row of a tag begins a section; any other is an entry of the section before it, or no row at all
+-- and of those that may follow what stands before: a row of a tag, or what has none
+abbrev pub entry_after : Option Tag → Option Tag
+entry_after previous = option_and_then entry_tag previous
+
+-- whether a row of a tag begins a section; any other is an entry of the section before it
 abbrev pub begins_section : Tag → Bool
 begins_section PlainContents = true
 begins_section PackedContents = true
@@ -52,4 +57,19 @@ begins_section Unknown = true
 begins_section Content = false
 begins_section Name = false
 begins_section Pair = false
-begins_section None = false
+
+-- and so of a row that may have no tag, which begins none
+abbrev pub opens_section : Option Tag → Bool
+opens_section None = false
+opens_section (Some t) = begins_section t
+
+-- how many bytes the headers of a section of a tag have; an entry has no section's
+abbrev pub headers_size : Tag → ℕ
+headers_size PlainContents = 28
+headers_size PackedContents = 28
+headers_size Names = 18
+headers_size Arguments = 20
+headers_size Unknown = 8
+headers_size Content = 0
+headers_size Name = 0
+headers_size Pair = 0

@@ -1,6 +1,8 @@
 // What a row is, by the number of its tag.
 ghost use Rattle.std.specs.Prelude.{◌≡◌};
-ghost use Rattle.table.specs.Tags.{tag_of, tag_number, same_tag, entry_tag, begins_section};
+ghost use Rattle.table.specs.Tags.{tag_of, tag_number, entry_tag, begins_section, headers_size};
+
+use layout::SourceInfoSectionType;
 
 // In the order of their numbers, from 0.
 #[derive(Clone, Copy, PartialEq, Eq)]
@@ -19,24 +21,23 @@ pub enum Tag {
     Name,
     // A pair of arguments.
     Pair,
-    // No tag: what any other number is, and what stands before the first row.
-    None,
 }
 
 impl Tag {
-    pub fn from_u32(value: u32) -> Self
+    // No `TryFrom`: document 01 names the conversions of kinds `from_u16` and `to_u16`, and a tag's are named like them.
+    pub fn from_u32(value: u32) -> Option<Self>
         ensures { result ≡ tag_of value }
     {
         match value {
-            0 => Tag::PlainContents,
-            1 => Tag::PackedContents,
-            2 => Tag::Names,
-            3 => Tag::Arguments,
-            4 => Tag::Unknown,
-            5 => Tag::Content,
-            6 => Tag::Name,
-            7 => Tag::Pair,
-            _ => Tag::None,
+            0 => Some(Tag::PlainContents),
+            1 => Some(Tag::PackedContents),
+            2 => Some(Tag::Names),
+            3 => Some(Tag::Arguments),
+            4 => Some(Tag::Unknown),
+            5 => Some(Tag::Content),
+            6 => Some(Tag::Name),
+            7 => Some(Tag::Pair),
+            _ => None,
         }
     }
 
@@ -47,33 +48,38 @@ impl Tag {
     }
 
     // The tag of the entries that may follow a row of this tag, if some may.
-    pub fn entry_tag(self) -> Tag
+    pub fn entry_tag(self) -> Option<Tag>
         ensures { result ≡ entry_tag self }
     {
         match self {
-            Tag::PlainContents | Tag::Content => Tag::Content,
-            Tag::Names | Tag::Name => Tag::Name,
-            Tag::Arguments | Tag::Pair => Tag::Pair,
-            Tag::PackedContents | Tag::Unknown | Tag::None => Tag::None,
+            Tag::PlainContents | Tag::Content => Some(Tag::Content),
+            Tag::Names | Tag::Name => Some(Tag::Name),
+            Tag::Arguments | Tag::Pair => Some(Tag::Pair),
+            Tag::PackedContents | Tag::Unknown => None,
         }
     }
 
-    // Whether a row of this tag begins a section; any other is an entry of the section before it, or no row at all.
+    // Whether a row of this tag begins a section; any other is an entry of the section before it.
     pub fn begins_section(self) -> bool
         ensures { result ≡ begins_section self }
     {
         match self {
             Tag::PlainContents | Tag::PackedContents | Tag::Names | Tag::Arguments | Tag::Unknown =>
                 true,
-            Tag::Content | Tag::Name | Tag::Pair | Tag::None => false,
+            Tag::Content | Tag::Name | Tag::Pair => false,
         }
     }
 
-    // Whether two tags are the same, as `==` is.
-    #[tactic(auto, using(crate::proofs::Tags::same_tags))]
-    pub fn same(self, other: Tag) -> bool
-        ensures { result ≡ same_tag self other }
+    // How many bytes the headers of a section of this tag have; 0 of an entry.
+    pub fn headers_size(self) -> usize
+        ensures { result ≡ headers_size self }
     {
-        self == other
+        match self {
+            Tag::PlainContents | Tag::PackedContents => SourceInfoSectionType::CONTENTS_START,
+            Tag::Names => SourceInfoSectionType::NAMES_START,
+            Tag::Arguments => SourceInfoSectionType::ARGS_START,
+            Tag::Unknown => SourceInfoSectionType::SECTION_HEADER_SIZE,
+            Tag::Content | Tag::Name | Tag::Pair => 0,
+        }
     }
 }

@@ -1,10 +1,8 @@
 // The lines of sections, stored at a place of the output. Each function answers the place after what it stores.
-ghost use Rattle.std.specs.Prelude.{is_ok, true, ◌≡◌, ◌+◌, ◌≤◌, length};
+ghost use Rattle.std.specs.Prelude.{◌≡◌, ◌+◌, ◌≤◌, length};
 ghost use mathlib.Core.List.{flat_map};
 ghost use Rattle.std.proofs.lemmas.List.Edits.{sets};
-ghost use Rattle.wire.specs.Number.{u32_at};
-ghost use Rattle.format.specs.Encoding.{limit};
-ghost use Rattle.format.specs.Parse.{parse_contents, parse_section};
+ghost use Rattle.layout.specs.declared.section_type.SourceInfoSectionType.TheVariants.{SourceContents};
 ghost use Rattle.format.specs.Walk.{compression_at};
 ghost use Rattle.sheet.specs.Lines.{line};
 ghost use Rattle.sheet.specs.SheetWalk.{packed_at, unknown_at, contents_records, section_records};
@@ -12,96 +10,98 @@ ghost use Rattle.to_sheet.specs.Entry.{sheet_limit};
 
 use crate::entry::{write_entries, write_pairs};
 use layout::{SourceCompression, SourceInfoSectionType};
-use section_reader::{EntryKind, body_size};
+use section_reader::{CheckedSection, EntryKind};
 
-// The line of the packed contents at a place.
-fn write_packed(payload: &[u8], at: usize, output: &mut [u8], to: usize) -> usize
-    requires at_le_limit { at ≤ limit }
-    requires at_bound { to + length (line (packed_at payload.now at)) ≤ sheet_limit }
-    ensures value { result ≡ to + length (line (packed_at payload.now at)) }
-    ensures output_after { output.new ≡ sets output.old to (line (packed_at payload.now at)) }
+// The line of packed contents.
+fn write_packed(section: CheckedSection, output: &mut [u8], to: usize) -> usize
+    requires { to + length (line (packed_at section.payload.now section.at)) ≤ sheet_limit }
+    ensures value { result ≡ to + length (line (packed_at section.entry.payload.now section.entry.at)) }
+    ensures output_after { output.new ≡ sets output.old to (line (packed_at section.entry.payload.now section.entry.at)) }
 {
     wire::write_bytes(output, to, b"packed");
-    let field = wire::read_u32(payload, at + 8);
-    let count = wire::read_u32(payload, at + 24);
-    let uncompressed = wire::read_u32(payload, at + 20);
-    let size = wire::read_u32(payload, at + 16);
+    let field = section.header_field();
+    let count = section.content_count();
+    let uncompressed = section.uncompressed_size();
+    let size = section.stored_size();
     let first = field_writer::write_number(output, (to + 6) as u32, field);
     let second = field_writer::write_number(output, first as u32, count);
     let third = field_writer::write_number(output, second as u32, uncompressed);
-    let start = at + SourceInfoSectionType::CONTENTS_START;
-    let end = field_writer::write_hex(output, third as u32, payload, start, size);
+    let start = section.at + SourceInfoSectionType::CONTENTS_START;
+    let end = field_writer::write_hex(output, third as u32, section.payload, start, size);
     wire::write_bytes(output, end, b"\n");
     end + 1
 }
 
-// The line of the section of an unknown kind at a place.
-fn write_unknown(payload: &[u8], kind: u16, at: usize, output: &mut [u8], to: usize) -> usize
-    requires at_le_limit { at ≤ limit }
-    requires at_bound { to + length (line (unknown_at payload.now kind at)) ≤ sheet_limit }
-    ensures value { result ≡ to + length (line (unknown_at payload.now kind at)) }
-    ensures output_after { output.new ≡ sets output.old to (line (unknown_at payload.now kind at)) }
+// The line of a section of an unknown kind.
+fn write_unknown(section: CheckedSection, kind: u16, output: &mut [u8], to: usize) -> usize
+    requires { to + length (line (unknown_at section.payload.now kind section.at)) ≤ sheet_limit }
+    ensures value { result ≡ to + length (line (unknown_at section.entry.payload.now kind section.entry.at)) }
+    ensures output_after { output.new ≡ sets output.old to (line (unknown_at section.entry.payload.now kind section.entry.at)) }
 {
-    let header = SourceInfoSectionType::SECTION_HEADER_SIZE;
-    let bytes = body_size(payload, at);
+    let start = section.at + SourceInfoSectionType::SECTION_HEADER_SIZE;
+    let bytes = section.body_size();
     wire::write_bytes(output, to, b"unknown");
     let next = field_writer::write_number(output, (to + 7) as u32, kind as u32);
-    let end = field_writer::write_hex(output, next as u32, payload, at + header, bytes);
+    let end = field_writer::write_hex(output, next as u32, section.payload, start, bytes);
     wire::write_bytes(output, end, b"\n");
     end + 1
 }
 
-// The lines of the contents at a place.
-fn write_contents(payload: &[u8], at: usize, output: &mut [u8], to: usize) -> usize
-    requires at_value { is_ok (parse_contents payload.now at (u32_at payload.now at)) ≡ true }
-    requires at_bound { at + u32_at payload.now at ≤ limit }
-    requires at_bound_2 { to + length (flat_map line (contents_records payload.now (compression_at payload.now at) at)) ≤ sheet_limit }
-    ensures value { result ≡ to + length (flat_map line (contents_records payload.now (compression_at payload.now at) at)) }
-    ensures output_after { output.new ≡ sets output.old to (flat_map line (contents_records payload.now (compression_at payload.now at) at)) }
+// The lines of contents.
+fn write_contents(section: CheckedSection, output: &mut [u8], to: usize) -> usize
+    requires kind { section.kind ≡ SourceContents }
+    requires len_bound { to + length (flat_map line (contents_records section.payload.now (compression_at section.payload.now section.at) section.at)) ≤ sheet_limit }
+    ensures value { result ≡ to + length (flat_map line (contents_records section.entry.payload.now (compression_at section.entry.payload.now section.entry.at) section.entry.at)) }
+    ensures output_after { output.new ≡ sets output.old to (flat_map line (contents_records section.entry.payload.now (compression_at section.entry.payload.now section.entry.at) section.entry.at)) }
 {
-    match SourceCompression::checked(wire::read_u16(payload, at + 14)) {
+    match section.compression() {
         SourceCompression::None => {
             wire::write_bytes(output, to, b"contents");
-            let field = wire::read_u32(payload, at + 8);
+            let field = section.header_field();
             let end = field_writer::write_number(output, (to + 8) as u32, field);
             wire::write_bytes(output, end, b"\n");
-            let count = wire::read_u32(payload, at + 24);
-            let start = at + SourceInfoSectionType::CONTENTS_START;
-            write_entries(payload, EntryKind::Content, count, start, output, end + 1)
+            let count = section.content_count();
+            let start = section.at + SourceInfoSectionType::CONTENTS_START;
+            write_entries(
+                section.payload,
+                EntryKind::Content,
+                count,
+                start,
+                output,
+                end + 1,
+            )
         }
-        SourceCompression::Zlib => write_packed(payload, at, output, to),
+        SourceCompression::Zlib => write_packed(section, output, to),
     }
 }
 
-// The lines of the section of a kind at a place.
-pub fn write_section(
-    payload: &[u8],
-    kind: SourceInfoSectionType,
-    at: usize,
-    output: &mut [u8],
-    to: usize,
-) -> usize
-    requires at_value { is_ok (parse_section kind payload.now at (u32_at payload.now at)) ≡ true }
-    requires at_in_bounds { at + u32_at payload.now at ≤ length payload.now }
-    requires payload_len_bound { length payload.now ≤ limit }
-    requires at_bound { to + length (flat_map line (section_records payload.now kind at)) ≤ sheet_limit }
-    ensures value { result ≡ to + length (flat_map line (section_records payload.now kind at)) }
-    ensures output_after { output.new ≡ sets output.old to (flat_map line (section_records payload.now kind at)) }
+// The lines of a section.
+pub fn write_section(section: CheckedSection, output: &mut [u8], to: usize) -> usize
+    requires { to + length (flat_map line (section_records section.payload.now section.kind section.at)) ≤ sheet_limit }
+    ensures value { result ≡ to + length (flat_map line (section_records section.entry.payload.now section.entry.kind section.entry.at)) }
+    ensures output_after { output.new ≡ sets output.old to (flat_map line (section_records section.entry.payload.now section.entry.kind section.entry.at)) }
 {
-    match kind {
-        SourceInfoSectionType::SourceContents => write_contents(payload, at, output, to),
+    match section.kind {
+        SourceInfoSectionType::SourceContents => write_contents(section, output, to),
         SourceInfoSectionType::SourceNames => {
             wire::write_bytes(output, to, b"names\n");
-            let count = wire::read_u32(payload, at + 12);
-            let start = at + SourceInfoSectionType::NAMES_START;
-            write_entries(payload, EntryKind::Name, count, start, output, to + 6)
+            let count = section.name_count();
+            let start = section.at + SourceInfoSectionType::NAMES_START;
+            write_entries(
+                section.payload,
+                EntryKind::Name,
+                count,
+                start,
+                output,
+                to + 6,
+            )
         }
         SourceInfoSectionType::Arguments => {
             wire::write_bytes(output, to, b"arguments\n");
-            let count = wire::read_u32(payload, at + 16);
-            let start = at + SourceInfoSectionType::ARGS_START;
-            write_pairs(payload, count, start, output, to + 10)
+            let count = section.pair_count();
+            let start = section.at + SourceInfoSectionType::ARGS_START;
+            write_pairs(section.payload, count, start, output, to + 10)
         }
-        SourceInfoSectionType::Unknown(kind) => write_unknown(payload, kind, at, output, to),
+        SourceInfoSectionType::Unknown(kind) => write_unknown(section, kind, output, to),
     }
 }

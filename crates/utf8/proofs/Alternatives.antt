@@ -9,7 +9,7 @@ use native.Mathlib.Nat.{le_of_suc-le-suc, not-suc-le-zero}
 use native.Mathlib.Omega.{arith}
 use lib.Dec.{T, leb, ltb, ltb→lt}
 use lib.ListN.{length, get_or, drop}
-use lib.Seq.{drop-cons, drop-drop}
+use lib.Seq.{drop-cons}
 use native.Mathlib.Numerals.{add-one}
 use Rattle.std.specs.List.{between}
 use Rattle.std.proofs.lemmas.Slice.{between_to_end}
@@ -119,20 +119,6 @@ begins-rest r rs (b ∷ s) e = go (within r b) e
     go : (t : Bool) → (t && true) ≡ true → (t && begins rs s) ≡ begins rs s
     go true e = refl
     go false e = absurd (subst T (sym e) tt)
-
--- the bytes from a place on begin with a byte of r: whether they begin with r and then rs is left to the bytes after it
-pub begins-hit : (r : Range) (rs : List Range) (s : List ℕ) (i : ℕ) → begins (r ∷ []) (drop i s) ≡ true → begins (r ∷ rs) (drop i s) ≡ begins rs (drop (i + 1) s)
-begins-hit r rs s i e = begins-rest r rs (drop i s) e ∙ ap (begins rs) (drop-drop 1 i s)
-
--- they do not begin with one: nor do they with r and then rs
-pub begins-miss : (r : Range) (rs : List Range) (s : List ℕ) → begins (r ∷ []) s ≡ false → begins (r ∷ rs) s ≡ false
-unfolding begins
-begins-miss r rs [] e = refl
-begins-miss r rs (b ∷ s) e = go (within r b) e
-  where
-    go : (t : Bool) → (t && true) ≡ false → (t && begins rs s) ≡ false
-    go true e = absurd (subst T e tt)
-    go false e = refl
 
 pub after-hit : (rs : List Range) (s : List ℕ) → begins rs s ≡ true → suc (length rs) ≡ length_after rs s
 unfolding length_after

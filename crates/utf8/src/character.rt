@@ -2,18 +2,17 @@
 ghost use Rattle.std.specs.Prelude.{◌≡◌, ◌∷◌, ◌<◌, replicate, length as List·length, drop};
 ghost use Rattle.std.specs.List.{list_all};
 ghost use Rattle.utf8.specs.Rfc3629.{to, tail, within, char_length};
-ghost use Rattle.utf8.specs.Classes.{ClassTable, length_after, nonzero};
+ghost use Rattle.utf8.specs.Classes.{length_after, nonzero};
 
-use crate::classes::class;
+use crate::classes::Classes;
 
 // The length of the character at place at, where one begins there.
-pub fn length(text: &[u8], at: usize, table: &[u8; 256]) -> Option<usize>
-    requires at_bound { at < List·length text.now }
-    requires class_table { ClassTable table.now }
+pub fn length(text: &[u8], at: usize, classes: Classes<'_>) -> Option<usize>
+    requires { at < List·length text.now }
     ensures { result ≡ nonzero (char_length (drop at text.now)) }
 {
     let rest = &text[at + 1..];
-    match class(table, text[at]) {
+    match classes.class(text[at]) {
         0 => Some(1),
         1 => after::<0>(rest, 0x80, 0xBF),
         2 => after::<1>(rest, 0xA0, 0xBF),

@@ -25,10 +25,17 @@ pub const CLASSES: [u8; 256] = *b"\
     \x02\x03\x03\x03\x03\x03\x03\x03\x03\x03\x03\x03\x03\x04\x05\x05\
     \x06\x07\x07\x07\x08\x0A\x0A\x0A\x0A\x0A\x0A\x0A\x0A\x0A\x0A\x0A";
 
-// The class of a byte, by the table, which the caller lends: a constant array is made anew where it is used.
-pub fn class(table: &[u8; 256], byte: u8) -> u8
-    requires { ClassTable table.now }
-    ensures { result ≡ class_of byte }
-{
-    table[byte as usize]
+// The table, lent: a constant array is made anew where it is named, here once for a text and not for each character.
+#[derive(Clone, Copy)]
+pub struct Classes<'a> {
+    pub table: &'a [u8; 256],
+    ghost of_each_byte: { ClassTable table.now },
+}
+
+impl<'a> Classes<'a> {
+    pub fn class(self, byte: u8) -> u8
+        ensures { result ≡ class_of byte }
+    {
+        self.table[byte as usize]
+    }
 }

@@ -10,7 +10,8 @@ mod classes;
 
 ghost use Rattle.std.specs.Prelude.{◌≡◌, drop};
 ghost use Rattle.utf8.specs.Rfc3629.{octets_from};
-ghost use Rattle.utf8.specs.Classes.{ClassTable};
+
+use crate::classes::{CLASSES, Classes};
 
 // Why bytes are no text: the first ill-formed sequence begins at this byte, and all before it is well formed.
 #[derive(Clone, Copy, Debug, PartialEq, Eq)]
@@ -18,18 +19,16 @@ pub struct Utf8Error {
     pub valid_up_to: usize,
 }
 
-// Reads on from a place, and lends the table of classes. A table is made at the start of the function
-// that names it: here, once for a text and not for each character. Past the end of a text there is nothing to read.
+// Reads on from a place, by the table of classes. Past the end of a text there is nothing to read.
 pub fn read_with_table(text: &[u8], from: usize) -> Result<(), Utf8Error>
     ensures { result ≡ octets_from 0 from (drop from text.now) }
 {
-    read_octets(text, from, &classes::CLASSES)
+    read_octets(text, from, Classes { table: &CLASSES })
 }
 
 // Reads on from a place, over each character by the class of its first byte. The place moves on by a length that is read,
 // so that no iterator of the library goes this way.
-fn read_octets(text: &[u8], from: usize, table: &[u8; 256]) -> Result<(), Utf8Error>
-    requires { ClassTable table.now }
+fn read_octets(text: &[u8], from: usize, classes: Classes<'_>) -> Result<(), Utf8Error>
     ensures { result ≡ octets_from 0 from (drop from text.now) }
 {
     let mut at = from;
@@ -37,7 +36,7 @@ fn read_octets(text: &[u8], from: usize, table: &[u8; 256]) -> Result<(), Utf8Er
         if text[at] < 0x80 {
             at += 1;
         } else {
-            match character::length(text, at, table) {
+            match character::length(text, at, classes) {
                 Some(count) => at += count,
                 None => return Err(Utf8Error { valid_up_to: at }),
             }

@@ -15,16 +15,6 @@ ghost use Rattle.std.specs.Prelude.{◌≤◌};
 
 use std::io;
 
-// The four bytes of a number below 2^32, the highest first.
-fn bytes(number: u64) -> [u8; 4] {
-    [
-        (number / 0x100_0000 % 256) as u8,
-        (number / 0x1_0000 % 256) as u8,
-        (number / 256 % 256) as u8,
-        (number % 256) as u8,
-    ]
-}
-
 // The place of the first ill-formed sequence, or the length of the text where there is none.
 fn well_formed_up_to(text: &[u8]) -> usize {
     match validate::validate(text) {
@@ -34,12 +24,12 @@ fn well_formed_up_to(text: &[u8]) -> usize {
 }
 
 // How many of the numbers from low on and below high are well formed up to end, as the string of
-// their bytes from place start on.
+// their last bytes, the highest first, but for so many of the four.
 fn count(low: u64, high: u64, start: usize, end: usize) -> usize
     requires { start ≤ 4 }
 {
     (low..high)
-        .filter(|number| well_formed_up_to(&bytes(*number)[start..]) == end)
+        .filter(|number| well_formed_up_to(&number.to_be_bytes()[4 + start..]) == end)
         .count()
 }
 

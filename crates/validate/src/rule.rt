@@ -37,53 +37,70 @@ fn has_wrong(bytes: &[u8]) -> bool
     found
 }
 
-// The end of the whole blocks from a place on that have no wrong byte.
-fn whole_blocks_end(text: &[u8], at: usize) -> usize
-    requires le_at { (3 ≤ at) × (at ≤ length text.now) }
-    requires by_index { (i : ℕ) → i < at → right_at text.now i ≡ true }
-    ensures upper_bound { result ≤ length text.now }
-    ensures by_index_2 { (i : ℕ) → i < result → right_at text.now i ≡ true }
-{
-    let large = blocks_end::<LARGE, _>(text.len(), at, |i| has_wrong(&text[i - 3..i + LARGE]));
-    blocks_end::<SMALL, _>(text.len(), large, |i| has_wrong(&text[i - 3..i + SMALL]))
+// A text with a place up to which every byte is right.
+#[derive(Clone, Copy)]
+struct RightPart<'a> {
+    text: &'a [u8],
+    end: usize,
+    ghost in_text: { end ≤ length text.now },
+    ghost each: { (i : ℕ) → i < end → right_at text.now i ≡ true },
 }
 
-// A place before which every byte is right, the end of a text that is right throughout. What is left of it after the last
-// whole block is looked at with the bytes before it, as one block. So 19: a small block, and the three bytes before it.
-fn right_end(text: &[u8], at: usize) -> usize
-    requires le_at { (3 ≤ at) × (at ≤ length text.now) × (19 ≤ length text.now) }
-    requires by_index { (i : ℕ) → i < at → right_at text.now i ≡ true }
-    ensures upper_bound { result ≤ length text.now }
-    ensures by_index_2 { (i : ℕ) → i < result → right_at text.now i ≡ true }
-{
-    let end = whole_blocks_end(text, at);
-    let last = text.len() - SMALL;
-    if end < last || has_wrong(&text[last - 3..]) {
-        return end;
+impl<'a> RightPart<'a> {
+    // The same, carried on over the whole blocks after it that have no wrong byte.
+    fn over_blocks(self) -> RightPart<'a>
+        requires { 3 ≤ self.end }
+        ensures { result.text.now ≡ self.entry.text.now }
+    {
+        let text = self.text;
+        let large = blocks_end::<LARGE, _>(
+            text.len(),
+            self.end,
+            |i| has_wrong(&text[i - 3..i + LARGE]),
+        );
+        let end = blocks_end::<SMALL, _>(text.len(), large, |i| has_wrong(&text[i - 3..i + SMALL]));
+        RightPart { text, end }
     }
-    text.len()
-}
 
-// The place at or before one, up to which all is right, where no character is open.
-fn shut_before(text: &[u8], end: usize) -> usize
-    requires end_in_bounds { end ≤ length text.now }
-    requires by_index { (i : ℕ) → i < end → right_at text.now i ≡ true }
-    ensures upper_bound { result ≤ length text.now }
-    ensures text_value { octets_from 0 result (drop result text.now) ≡ utf8_of text.now }
-{
-    if end < 3 {
-        return 0;
+    // The same, up to the end of a text that is right throughout. What is left of it after the last whole block is looked at
+    // with the bytes before it, as one block. So 19: a small block, and the three bytes before it.
+    fn carried_on(self) -> RightPart<'a>
+        requires { (3 ≤ self.end) × (19 ≤ length self.text.now) }
+        ensures { result.text.now ≡ self.entry.text.now }
+    {
+        let part = self.over_blocks();
+        let text = part.text;
+        let last = text.len() - SMALL;
+        if part.end < last || has_wrong(&text[last - 3..]) {
+            return part;
+        }
+        RightPart {
+            text,
+            end: text.len(),
+        }
     }
-    if text[end - 1] >= 0xC2 {
-        return end - 1;
+
+    // The place at or before its end where no character is open.
+    fn shut_end(self) -> usize
+        ensures upper_bound { result ≤ length self.entry.text.now }
+        ensures text_value { octets_from 0 result (drop result self.entry.text.now) ≡ utf8_of self.entry.text.now }
+    {
+        let text = self.text;
+        let end = self.end;
+        if end < 3 {
+            return 0;
+        }
+        if text[end - 1] >= 0xC2 {
+            return end - 1;
+        }
+        if text[end - 2] >= 0xE0 {
+            return end - 2;
+        }
+        if text[end - 3] >= 0xF0 {
+            return end - 3;
+        }
+        end
     }
-    if text[end - 2] >= 0xE0 {
-        return end - 2;
-    }
-    if text[end - 3] >= 0xF0 {
-        return end - 3;
-    }
-    end
 }
 
 // A place up to which the text is well formed, its end if it is so throughout, as far as blocks tell. Up to `at` it is ASCII.
@@ -97,11 +114,11 @@ pub fn passed(text: &[u8], at: usize) -> usize
         return at;
     }
     if at >= 3 {
-        return shut_before(text, right_end(text, at));
+        return RightPart { text, end: at }.carried_on().shut_end();
     }
     // Before its start three zeros count as a text's bytes.
     if has_wrong(&[0, 0, 0, text[0], text[1], text[2]]) {
         return at;
     }
-    shut_before(text, right_end(text, 3))
+    RightPart { text, end: 3 }.carried_on().shut_end()
 }

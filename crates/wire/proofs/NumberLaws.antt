@@ -9,7 +9,7 @@ use native.Mathlib.Numerals.{add-one}
 use lib.Arith.{digits_div, digits_mod, mod-mul}
 use lib.Dec.{lit<}
 use lib.ListN.{length, get_or, take, drop}
-use lib.Seq.{sets, drop-append-add, drop-drop}
+use lib.Seq.{sets, drop-drop}
 use Rattle.wire.specs.Number.{byte_at, little_endian, u16_at, u32_at, bytes_of}
 use Rattle.wire.proofs.Sets.{sets-joined}
 
@@ -56,10 +56,6 @@ unfolding little_endian
 little_endian-prefix zero s t h = refl
 little_endian-prefix (suc w) [] t h = absurd (not-suc-le-zero h)
 little_endian-prefix (suc w) (b ∷ s) t h = ap (λ (n : ℕ). b + 256 * n) (little_endian-prefix w s t (le_of_suc-le-suc h))
-
--- bytes before the place do not count
-pub little_endian-append : (w : ℕ) (s t : List ℕ) (k : ℕ) → little_endian w (drop (length s + k) (s ++ t)) ≡ little_endian w (drop k t)
-little_endian-append w s t k = rw drop-append-add
 
 -- a number of a width is below 256 to the width
 pub little_endian-below : (w : ℕ) (s : List ℕ) → ((k : ℕ) → get_or s k 0 < 256) → little_endian w s < 256 ^ w

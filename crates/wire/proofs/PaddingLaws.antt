@@ -50,9 +50,6 @@ aligned-least n m h e = omega (arith, aligned-by-arithmetic n)
 pub aligned-of-multiple : (n : ℕ) → n % 4 ≡ 0 → aligned n ≡ n
 aligned-of-multiple n e = omega (arith, aligned-by-arithmetic n)
 
-pub aligned-add : (k n : ℕ) → k % 4 ≡ 0 → aligned (k + n) ≡ k + aligned n
-aligned-add k n e = omega (arith, aligned-by-arithmetic n, aligned-by-arithmetic (k + n))
-
 -- ---- zeros
 
 pub all_zero-replicate : (n : ℕ) → all_zero (replicate n 0) ≡ true

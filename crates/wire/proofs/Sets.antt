@@ -6,7 +6,7 @@ use Prim.Native.Nat.{ℕ, suc, ◌+◌, ◌-◌, min, ◌≤◌, ◌<◌}
 use native.Mathlib.Nat.{add-zero, add-suc, suc-add, min-eq_left, min-eq_right}
 use native.Mathlib.Omega.{arith}
 use native.Mathlib.Decide.{dec_le}
-use lib.ListN.{length, take, drop, set, replicate, length-replicate, replicate-append-replicate, take-append-drop}
+use lib.ListN.{length, take, drop, set, replicate, length-replicate, take-append-drop}
 use borrow.Rule.Slice.PartMut.{put_mid}
 use Rattle.std.proofs.lemmas.List.Edits.{sets-eq}
 use lib.Seq.{sets, length-sets, length-take-le, set_out, take-length, set-set, set_comm, drop-drop}
@@ -30,11 +30,6 @@ module _ {A : Type 0} where
   -- what comes after the end may be left out of a run
   pub sets-within : (vs ws l : List A) (i : ℕ) → length l ≤ i + length vs → sets l i (vs ++ ws) ≡ sets l i vs
   sets-within vs ws l i h = sets-append vs ws l i ∙ sets-past ws (sets l i vs) (i + length vs) (omega (arith, length-sets l i vs))
-
-  -- one store more, of a value that is stored over and over
-  pub sets_more : (l : List A) (i n : ℕ) (a : A) → set (sets l i (replicate n a)) (i + n) a ≡ sets l i (replicate (n + 1) a)
-  sets_more l i n a =
-      rw (← replicate-append-replicate n 1 a, sets-append (replicate n a) (replicate 1 a) l i, length-replicate)
 
   -- of several values, those that fit are stored
   pub sets-room : (vs l : List A) (i : ℕ) → sets l i (take (min (length vs) (length l - i)) vs) ≡ sets l i vs

@@ -14,7 +14,7 @@ pub fn write_bytes(output: &mut [u8], offset: usize, bytes: &[u8])
 }
 
 // Copies bytes onto as many. A loop, which is compiled to `memcpy`, and not `copy_from_slice`, for which the archive would
-// need `memmove` too.
+// need `memmove` too, here where the length is any.
 fn copy(to: &mut [u8], from: &[u8])
     requires { length to.old ≡ length from.now }
     ensures { to.new ≡ from.now }

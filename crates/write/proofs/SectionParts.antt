@@ -1,5 +1,6 @@
 -- The section that a row begins, by its row's tag: what it stores and where, how many rows are its entries, and what stands around it.
 -- Assumes nothing.
+use Rattle.std.specs.Prelude.{Option, Some, None}
 use Prim.Native.Nat.{ℕ, ◌+◌, ◌-◌, ◌≤◌}
 use mathlib.Core.Bool.{true}
 use mathlib.Core.List.{List, []}
@@ -13,11 +14,11 @@ use Rattle.wire.specs.Padding.{aligned}
 use Rattle.wire.proofs.PaddingLaws.{le-aligned}
 use Rattle.layout.specs.Kinds.{compression_number}
 use Rattle.layout.specs.Spans.{span_bytes}
-use Rattle.layout.specs.declared.compression.SourceCompression.TheVariants.{None, Zlib}
+use Rattle.layout.specs.declared.compression.SourceCompression.TheVariants as compression
 use Rattle.layout.specs.declared.section_type.SourceInfoSectionType.{SourceInfoSectionType}
 use Rattle.layout.specs.declared.section_type.SourceInfoSectionType.TheVariants as kind
 use Rattle.table.specs.Rows.{no_row, bytes_span}
-use Rattle.table.specs.Tags.{tag_of, entry_tag, begins_section}
+use Rattle.table.specs.Tags.{tag_of, entry_tag, begins_section, headers_size}
 use Rattle.table.specs.declared.row.Row.{Row}
 use Rattle.table.specs.declared.tag.Tag.{Tag}
 use Rattle.table.specs.declared.tag.Tag.TheVariants as tag
@@ -34,7 +35,7 @@ use Rattle.write.specs.Position.{standing}
 use Rattle.write.specs.Run.{row_bytes, run_bytes}
 use Rattle.write.specs.Source.{rows, section, after, MayWrite}
 use Rattle.write.specs.declared.source.Source.{Source}
-use Rattle.write.specs.Section.{entry_count, entries_of, section_at, next_section, start_of}
+use Rattle.write.specs.Section.{entry_count, entries_of, section_at, next_section}
 use Rattle.write.proofs.RunLaws.{run-contents, run-names, run-pairs, count-leading}
 
 -- a section's kind, and its body header for so many stored bytes
@@ -55,7 +56,7 @@ module _ (payload edit : List ℕ) where
       rw q (omega (arith, length-name_entry name, le-aligned (16 + wire_size (length name.text))))
   row-least t (inr (inr q)) r = rw q (omega (arith, length-pair_entry (pair_of payload edit r)))
 
-  run-many : (t : Tag) → (t ≡ tag.Content) ⊎ ((t ≡ tag.Name) ⊎ (t ≡ tag.Pair)) → (rows : List Row) → entry_count t rows ≤ length (run_bytes payload edit t rows)
+  run-many : (t : Tag) → (t ≡ tag.Content) ⊎ ((t ≡ tag.Name) ⊎ (t ≡ tag.Pair)) → (rows : List Row) → entry_count (Some t) rows ≤ length (run_bytes payload edit t rows)
   unfolding run_bytes
   run-many t h rows = flat_map-least (row_bytes payload edit t) (row-least t h) _
 
@@ -71,7 +72,7 @@ module _ (payload edit : List ℕ) (all : List Row) (index : ℕ) where
 
   -- ---- what it stores: the bytes that its row names, or its entries
 
-  own-stored : (t : Tag) → begins_section t ≡ true → tag_of row.tag ≡ t → entry_tag t ≡ tag.None → (stored_bytes s ≡ span_bytes payload edit (bytes_span row)) × (entries_of t rest ≡ 0)
+  own-stored : (t : Tag) → begins_section t ≡ true → tag_of row.tag ≡ Some t → entry_tag t ≡ None → (stored_bytes s ≡ span_bytes payload edit (bytes_span row)) × (entries_of (Some t) rest ≡ 0)
   unfolding begun stored_bytes
   own-stored tag.PlainContents b q n = cc
   own-stored tag.PackedContents b q n = (rw q, refl)
@@ -81,31 +82,32 @@ module _ (payload edit : List ℕ) (all : List Row) (index : ℕ) where
   own-stored tag.Content b q n = cc
   own-stored tag.Name b q n = cc
   own-stored tag.Pair b q n = cc
-  own-stored tag.None b q n = cc
 
   pub record Run (t e : Tag) : Type 0 where
     pub stored : stored_bytes s ≡ run_bytes payload edit e rest
-    pub count : entries_of t rest ≡ entry_count e rest
-    pub many : entry_count e rest ≤ length (run_bytes payload edit e rest)
+    pub count : entries_of (Some t) rest ≡ entry_count (Some e) rest
+    pub many : entry_count (Some e) rest ≤ length (run_bytes payload edit e rest)
 
-  run-stored : (t : Tag) → begins_section t ≡ true → tag_of row.tag ≡ t → (entry_tag t ≡ tag.None → ⊥) → Run t (entry_tag t)
+  run-stored : (t e : Tag) → begins_section t ≡ true → tag_of row.tag ≡ Some t → entry_tag t ≡ Some e → Run t e
   unfolding begun stored_bytes
-  run-stored tag.PlainContents b q n =
-      record { stored = rw q (sym (run-contents payload edit rest)); count = refl; many = run-many payload edit tag.Content (inl refl) rest }
-  run-stored tag.PackedContents b q n = absurd (n refl)
-  run-stored tag.Names b q n =
-      record { stored = rw q (sym (run-names payload edit rest)); count = refl; many = run-many payload edit tag.Name (inr (inl refl)) rest }
-  run-stored tag.Arguments b q n =
-      record { stored = rw q (sym (run-pairs payload edit rest)); count = refl; many = run-many payload edit tag.Pair (inr (inr refl)) rest }
-  run-stored tag.Unknown b q n = absurd (n refl)
-  run-stored tag.Content b q n = cc
-  run-stored tag.Name b q n = cc
-  run-stored tag.Pair b q n = cc
-  run-stored tag.None b q n = cc
+  run-stored tag.PlainContents e b q n =
+      let own : tag.Content ≡ e = cc in
+      rw (← own) (record { stored = rw q (sym (run-contents payload edit rest)); count = refl; many = run-many payload edit tag.Content (inl refl) rest })
+  run-stored tag.PackedContents e b q n = cc
+  run-stored tag.Names e b q n =
+      let own : tag.Name ≡ e = cc in
+      rw (← own) (record { stored = rw q (sym (run-names payload edit rest)); count = refl; many = run-many payload edit tag.Name (inr (inl refl)) rest })
+  run-stored tag.Arguments e b q n =
+      let own : tag.Pair ≡ e = cc in
+      rw (← own) (record { stored = rw q (sym (run-pairs payload edit rest)); count = refl; many = run-many payload edit tag.Pair (inr (inr refl)) rest })
+  run-stored tag.Unknown e b q n = cc
+  run-stored tag.Content e b q n = cc
+  run-stored tag.Name e b q n = cc
+  run-stored tag.Pair e b q n = cc
 
   -- ---- where it stores that
 
-  starts : (t : Tag) → begins_section t ≡ true → tag_of row.tag ≡ t → start s ≡ start_of t
+  starts : (t : Tag) → begins_section t ≡ true → tag_of row.tag ≡ Some t → start s ≡ headers_size t
   unfolding begun stored_bytes body_header kind_of
   starts tag.PlainContents b q = rw q
   starts tag.PackedContents b q = rw q
@@ -115,40 +117,39 @@ module _ (payload edit : List ℕ) (all : List Row) (index : ℕ) where
   starts tag.Content b q = cc
   starts tag.Name b q = cc
   starts tag.Pair b q = cc
-  starts tag.None b q = cc
 
   -- where the section ends within the limit, the stored bytes do too
-  within : (t : Tag) → begins_section t ≡ true → tag_of row.tag ≡ t → (at : ℕ) → at + length (encode_section s) ≤ limit → at + start_of t + length (stored_bytes s) ≤ limit
+  within : (t : Tag) → begins_section t ≡ true → tag_of row.tag ≡ Some t → (at : ℕ) → at + length (encode_section s) ≤ limit → at + headers_size t + length (stored_bytes s) ≤ limit
   within t b q at small = omega (arith, starts t b q, length-section s, le-aligned (filled s))
 
 -- ---- the section at a position, where it may be written
 
-module _ {source : Source} {t : Tag} {p : Position} (m : MayWrite source t p) where
+module _ {source : Source} {t : Tag} {p : Position} (m : MayWrite source (Some t) p) where
   abbrev this : Section
   this = section source p
 
   -- its stored bytes end within the limit
-  pub fits : p.at + start_of t + length (stored_bytes this) ≤ limit
+  pub fits : p.at + headers_size t + length (stored_bytes this) ≤ limit
   fits = within _ _ (rows source) p.index t m.begins m.writable.1 p.at m.writable.4
 
   -- it stores the bytes that its row names
   pub own :
-      {e : Tag} {r : Row} {bytes : List ℕ} →
+      {e : Option Tag} {r : Row} {bytes : List ℕ} →
       e ≡ entry_tag t →
-      e ≡ tag.None →
+      e ≡ None →
       r ≡ get_or (rows source) p.index no_row →
-      bytes ≡ span_bytes source.payload.now source.edit.now (bytes_span r) →
-      (bytes ≡ stored_bytes this) × (entries_of t (drop (p.index + 1) (rows source)) ≡ 0)
+      bytes ≡ span_bytes source.sides.payload.now source.sides.edit.now (bytes_span r) →
+      (bytes ≡ stored_bytes this) × (entries_of (Some t) (drop (p.index + 1) (rows source)) ≡ 0)
   own is none row named =
-      let (stored, count) = own-stored source.payload.now source.edit.now (rows source) p.index t m.begins m.writable.1 (sym is ∙ none) in
+      let (stored, count) = own-stored source.sides.payload.now source.sides.edit.now (rows source) p.index t m.begins m.writable.1 (sym is ∙ none) in
       (rw row at named ∙ sym stored, count)
 
   -- or its entries
-  pub run : {e : Tag} → e ≡ entry_tag t → (e ≡ tag.None → ⊥) → Run source.payload.now source.edit.now (rows source) p.index t e
-  run is some = rw is (run-stored source.payload.now source.edit.now (rows source) p.index t m.begins m.writable.1 (λ none. some (is ∙ none)))
+  pub run : {e : Tag} → Some e ≡ entry_tag t → Run source.sides.payload.now source.sides.edit.now (rows source) p.index t e
+  run {e = e} is = run-stored source.sides.payload.now source.sides.edit.now (rows source) p.index t e m.begins m.writable.1 (sym is)
 
   -- where the row after it stands
-  pub onward : next_section (rows source) p.index ≡ p.index + 1 + entries_of t (drop (p.index + 1) (rows source))
+  pub onward : next_section (rows source) p.index ≡ p.index + 1 + entries_of (Some t) (drop (p.index + 1) (rows source))
   onward = rw m.writable.1
 
   -- what its writer answers and leaves, once what it stores is stored, and closed
@@ -157,16 +158,16 @@ module _ {source : Source} {t : Tag} {p : Position} (m : MayWrite source t p) wh
       Headed this k header →
       (l : List ℕ) {start end i a : ℕ} {whole : List ℕ} →
       start ≡ p.at →
-      end ≡ p.at + start_of t + length (stored_bytes this) →
+      end ≡ p.at + headers_size t + length (stored_bytes this) →
       i ≡ next_section (rows source) p.index →
       a ≡ start + aligned (end - start) →
-      whole ≡ framed (sets l (p.at + start_of t) (stored_bytes this)) start end k (header (end - (start + start_of t))) →
+      whole ≡ framed (sets l (p.at + headers_size t) (stored_bytes this)) start end k (header (end - (start + headers_size t))) →
       (standing i a ≡ after source p) × (whole ≡ sets l p.at (encode_section this))
   told h l {end = end} from ends index after closed =
-      let starts = starts source.payload.now source.edit.now (rows source) p.index t m.begins m.writable.1 in
+      let starts = starts source.sides.payload.now source.sides.edit.now (rows source) p.index t m.begins m.writable.1 in
       let span : end ≡ p.at + filled this = omega (arith, starts) in (
         rw (index, after, from, closed-size this p.at span),
-        cc (starts, h.kinded, h.headed (end - (p.at + start_of t)), section-closed this p.at span l),
+        cc (starts, h.kinded, h.headed (end - (p.at + headers_size t)), section-closed this p.at span l),
       )
 
 -- ---- what stands around the stored bytes of a section, by its tag
@@ -176,28 +177,28 @@ module _ (source : Source) (p : Position) where
   begun-by = get_or (rows source) p.index no_row
 
   abbrev entries : Tag → ℕ
-  entries t = entries_of t (drop (p.index + 1) (rows source))
+  entries t = entries_of (Some t) (drop (p.index + 1) (rows source))
 
-  pub plain-headed : MayWrite source tag.PlainContents p → Headed (section source p) kind.SourceContents (λ n. contents_header begun-by.a (compression_number None) n n (entries tag.PlainContents))
+  pub plain-headed : MayWrite source (Some tag.PlainContents) p → Headed (section source p) kind.SourceContents (λ n. contents_header begun-by.a (compression_number compression.None) n n (entries tag.PlainContents))
   unfolding begun body_header kind_of
-  plain-headed m = rw m.writable.1 (record { kinded = refl; headed = λ n. rw (count-leading tag.Content (content_of source.payload.now source.edit.now) (drop (p.index + 1) (rows source))) })
+  plain-headed m = rw m.writable.1 (record { kinded = refl; headed = λ n. rw (count-leading (Some tag.Content) (content_of source.sides.payload.now source.sides.edit.now) (drop (p.index + 1) (rows source))) })
 
-  pub packed-headed : MayWrite source tag.PackedContents p → Headed (section source p) kind.SourceContents (λ n. contents_header begun-by.a (compression_number Zlib) n begun-by.e begun-by.d)
+  pub packed-headed : MayWrite source (Some tag.PackedContents) p → Headed (section source p) kind.SourceContents (λ n. contents_header begun-by.a (compression_number compression.Zlib) n begun-by.e begun-by.d)
   unfolding begun body_header kind_of
   packed-headed m = rw m.writable.1 (record { kinded = refl; headed = λ n. refl })
 
-  pub names-headed : MayWrite source tag.Names p → Headed (section source p) kind.SourceNames (λ n. names_header n (entries tag.Names))
+  pub names-headed : MayWrite source (Some tag.Names) p → Headed (section source p) kind.SourceNames (λ n. names_header n (entries tag.Names))
   unfolding begun body_header kind_of
-  names-headed m = rw m.writable.1 (record { kinded = refl; headed = λ n. rw (count-leading tag.Name (name_of source.payload.now source.edit.now) (drop (p.index + 1) (rows source))) })
+  names-headed m = rw m.writable.1 (record { kinded = refl; headed = λ n. rw (count-leading (Some tag.Name) (name_of source.sides.payload.now source.sides.edit.now) (drop (p.index + 1) (rows source))) })
 
-  pub arguments-headed : MayWrite source tag.Arguments p → Headed (section source p) kind.Arguments (λ n. arguments_header n (entries tag.Arguments))
+  pub arguments-headed : MayWrite source (Some tag.Arguments) p → Headed (section source p) kind.Arguments (λ n. arguments_header n (entries tag.Arguments))
   unfolding begun body_header kind_of
-  arguments-headed m = rw m.writable.1 (record { kinded = refl; headed = λ n. rw (count-leading tag.Pair (pair_of source.payload.now source.edit.now) (drop (p.index + 1) (rows source))) })
+  arguments-headed m = rw m.writable.1 (record { kinded = refl; headed = λ n. rw (count-leading (Some tag.Pair) (pair_of source.sides.payload.now source.sides.edit.now) (drop (p.index + 1) (rows source))) })
 
-  pub unknown-headed : MayWrite source tag.Unknown p → Headed (section source p) (kind.Unknown begun-by.a) (λ n. [])
+  pub unknown-headed : MayWrite source (Some tag.Unknown) p → Headed (section source p) (kind.Unknown begun-by.a) (λ n. [])
   unfolding begun body_header kind_of
   unknown-headed m = rw m.writable.1 (record { kinded = refl; headed = λ n. refl })
 
   -- an unknown kind fits its field
-  pub kind-fits : MayWrite source tag.Unknown p → begun-by.a ≤ 65535
+  pub kind-fits : MayWrite source (Some tag.Unknown) p → begun-by.a ≤ 65535
   kind-fits m = rw (unknown-headed m).kinded at m.writable.2

@@ -1,7 +1,7 @@
 -- The sections that are stored turn by turn: what holds before a turn of where the position stands, of how many sections are stored and of the output. It holds at first and
 -- after each turn, and where no row is left it says the whole.
 -- Assumes nothing.
-use Rattle.std.specs.Prelude.{is_ok}
+use Rattle.std.specs.Prelude.{is_ok, Option}
 use Prim.Native.Nat.{ℕ, ◌+◌, ◌-◌, ◌/◌, ◌≤◌, ◌<◌, ◌^◌}
 use mathlib.Core.Bool.{true}
 use mathlib.Core.List.{List, [], flat_map}
@@ -10,7 +10,7 @@ use native.Mathlib.Omega.{arith}
 use lib.ListN.{length, get_or, drop, drop_of_length-le}
 use lib.Seq.{sets, length-sets}
 use Rattle.table.specs.Rows.{rows_of, no_row}
-use Rattle.table.specs.Tags.{tag_of, begins_section}
+use Rattle.table.specs.Tags.{tag_of, opens_section}
 use Rattle.table.specs.declared.row.Row.{Row}
 use Rattle.table.specs.declared.tag.Tag.{Tag}
 use Rattle.table.proofs.Rows.{length-rows_of}
@@ -21,13 +21,6 @@ use Rattle.format.specs.Write.{written}
 use Rattle.write.specs.Position.{standing, Writable, past, section_bytes}
 use Rattle.write.specs.declared.position.Position.{Position}
 use Rattle.write.proofs.SectionLaws.{Left, Next, next-section, next-stored, all_left}
-
--- whether a row of the table stands at an index, by how many numbers it has
-pub row-left : (table : List ℕ) (index : ℕ) → index < length table / 7 → index < length (rows_of table)
-row-left table index less = omega (arith, less, length-rows_of table)
-
-pub no-row-left : (table : List ℕ) (index : ℕ) → length table / 7 ≤ index → length (rows_of table) ≤ index
-no-row-left table index over = omega (arith, over, length-rows_of table)
 
 -- the whole rows of a table are counted by its numbers
 pub ruleset rows_counted = (length-rows_of)
@@ -51,26 +44,20 @@ module _ (payload edit : List ℕ) (rows : List Row) (output₀ : List ℕ) wher
       record { left = left; counted = omega arith; few = few; stored = refl; same = refl }
 
   module _ {h : Position} {sections : ℕ} {output : List ℕ} (t : Turn h sections output) where
-    pub count_fits : sections < 2 ^ 16
-    count_fits = omega (arith, t.counted, t.few)
-
     module _ (inside : h.index < length rows) where
       next : Next payload edit rows h.index h.at
       next = next-section payload edit rows h.index h.at inside t.left
 
       -- a section can be written, of the tag that its row has
-      abbrev tag : Tag
+      abbrev tag : Option Tag
       tag = tag_of (get_or rows h.index no_row).tag
 
-      pub writable : (begins_section tag ≡ true) × Writable payload edit rows tag h
+      pub writable : (opens_section tag ≡ true) × Writable payload edit rows tag h
       writable = (next.begins, (inside, refl, next.kind, next.fit, next.small))
 
       -- it is counted, and fewer rows are left
       pub more-fits : sections + 1 < 2 ^ 16
       more-fits = omega (arith, t.counted, t.few, ap length next.sections)
-
-      pub nearer : (h' : Position) → h' ≡ past payload edit rows h → length rows - h'.index < length rows - h.index
-      nearer h' e = omega (arith, inside, ap (λ (p : Position). p.index) e)
 
       pub next-turn : (h' : Position) (output' : List ℕ) → h' ≡ past payload edit rows h → output' ≡ sets output h.at (section_bytes payload edit rows h) → Turn h' (sections + 1) output'
       next-turn h' output' e f = rw (e, f) record {

@@ -1,5 +1,5 @@
 -- A position, moved on past the section that its row begins.
-use Rattle.std.specs.Prelude.{ℕ, ◌+◌, ◌≤◌, ◌<◌, true, List, ◌≡◌, length, get_or}
+use Rattle.std.specs.Prelude.{ℕ, ◌+◌, ◌≤◌, ◌<◌, true, List, ◌≡◌, length, get_or, Option}
 use Rattle.table.specs.Rows.{no_row}
 use Rattle.layout.specs.Kinds.{kind_number}
 use Rattle.table.specs.Tags.{tag_of}
@@ -22,7 +22,7 @@ abbrev pub past : List ℕ → List ℕ → List Row → Position → Position
 past payload edit rows p = record { index = next_section rows p.index; at = p.at + length (section_bytes payload edit rows p) }
 
 -- the row at a position is of a tag, and the section that it begins fits its fields and the limit
-abbrev pub Writable : List ℕ → List ℕ → List Row → Tag → Position → Type 0
+abbrev pub Writable : List ℕ → List ℕ → List Row → Option Tag → Position → Type 0
 Writable payload edit rows t p =
     (p.index < length rows)
     × (tag_of (get_or rows p.index no_row).tag ≡ t)

@@ -1,9 +1,9 @@
 -- The bytes that rows are written as.
-use Rattle.std.specs.Prelude.{ℕ}
+use Rattle.std.specs.Prelude.{ℕ, Some}
 use mathlib.Core.List.{List, [], flat_map}
 use Rattle.table.specs.declared.row.Row.{Row}
 use Rattle.table.specs.declared.tag.Tag.{Tag}
-use Rattle.table.specs.declared.tag.Tag.TheVariants.{PlainContents, PackedContents, Names, Arguments, Unknown, Content, Name, Pair, None}
+use Rattle.table.specs.declared.tag.Tag.TheVariants.{PlainContents, PackedContents, Names, Arguments, Unknown, Content, Name, Pair}
 use Rattle.format.specs.Encoding.{content_entry, name_entry, pair_entry}
 use Rattle.format.specs.Resolve.{leading, content_of, name_of, pair_of}
 
@@ -17,8 +17,7 @@ row_bytes payload edit Unknown r = []
 row_bytes payload edit Content r = content_entry (content_of payload edit r)
 row_bytes payload edit Name r = name_entry (name_of payload edit r)
 row_bytes payload edit Pair r = pair_entry (pair_of payload edit r)
-row_bytes payload edit None r = []
 
 -- the rows of a tag that stand at the start of some rows, as entries
 unfoldable pub run_bytes : List ℕ → List ℕ → Tag → List Row → List ℕ
-run_bytes payload edit t rows = flat_map (row_bytes payload edit t) (leading t (λ (r : Row). r) rows)
+run_bytes payload edit t rows = flat_map (row_bytes payload edit t) (leading (Some t) (λ (r : Row). r) rows)

@@ -1,7 +1,7 @@
 -- A source: its rows, its sections, and the section that the row at a position begins.
-use Rattle.std.specs.Prelude.{List, true, ◌≡◌}
+use Rattle.std.specs.Prelude.{List, true, ◌≡◌, Option}
 use Rattle.table.specs.Rows.{rows_of}
-use Rattle.table.specs.Tags.{begins_section}
+use Rattle.table.specs.Tags.{opens_section}
 use Rattle.table.specs.declared.row.Row.{Row}
 use Rattle.table.specs.declared.tag.Tag.{Tag}
 use Rattle.format.specs.Resolve.{sections_of}
@@ -15,16 +15,16 @@ abbrev pub rows : Source → List Row
 rows s = rows_of s.rows.now
 
 abbrev pub all_sections : Source → List Section
-all_sections s = sections_of s.payload.now s.edit.now (rows s)
+all_sections s = sections_of s.sides.payload.now s.sides.edit.now (rows s)
 
 abbrev pub section : Source → Position → Section
-section s p = section_at s.payload.now s.edit.now (rows s) p.index
+section s p = section_at s.sides.payload.now s.sides.edit.now (rows s) p.index
 
 -- the position after that section
 abbrev pub after : Source → Position → Position
-after s p = past s.payload.now s.edit.now (rows s) p
+after s p = past s.sides.payload.now s.sides.edit.now (rows s) p
 
 -- the row at a position is of a tag that begins a section, and that section may be written there
-pub record MayWrite (s : Source) (t : Tag) (p : Position) : Type 0 where
-  pub begins : begins_section t ≡ true
-  pub writable : Writable s.payload.now s.edit.now (rows s) t p
+pub record MayWrite (s : Source) (t : Option Tag) (p : Position) : Type 0 where
+  pub begins : opens_section t ≡ true
+  pub writable : Writable s.sides.payload.now s.sides.edit.now (rows s) t p

@@ -1,6 +1,6 @@
 // Entries of contents and of names, and pairs, stored at a place of the output: the text first, and then what stands
 // around it (crate frames). Each answers the place after it. A content and a name differ in their header and in what closes
-// them, so one function of both would need a flag for each.
+// them, so one function of both would need a flag for each. Crate from_sheet has the same of escaped fields, and says why.
 ghost use Rattle.std.specs.Prelude.{◌≡◌, ◌+◌, ◌≤◌, length};
 ghost use Rattle.std.proofs.lemmas.List.Edits.{sets};
 ghost use Rattle.wire.specs.Length.{wire_size};

@@ -18,7 +18,7 @@ mod writers;
 ghost use Rattle.std.specs.Prelude.{◌≡◌, length};
 ghost use Rattle.format.specs.Write.{write_answer, write_output};
 
-use layout::{Answer, Refusal};
+use layout::{Answer, Refusal, Sides};
 use source::Source;
 
 // Writes rows over a payload and an edit text to a lent output, whole, or refuses them and leaves the output
@@ -33,8 +33,7 @@ pub fn write(payload: &[u8], edit: &[u8], rows: &[u32], output: &mut [u8]) -> An
         return Err(Refusal::NoRoom(size));
     }
     let source = Source {
-        payload,
-        edit,
+        sides: Sides { payload, edit },
         rows,
     };
     source_info::write_srci(&source, output, size);

@@ -1,6 +1,7 @@
 // The entries that rows are, stored at a place of the output.
-ghost use Rattle.std.specs.Prelude.{◌≡◌, ◌+◌, ◌≤◌, length, drop};
+ghost use Rattle.std.specs.Prelude.{◌≡◌, ◌+◌, ◌≤◌, length, drop, Some};
 ghost use Rattle.std.proofs.lemmas.List.Edits.{sets};
+ghost use Rattle.table.specs.Tags.{tag_of, same_tag};
 ghost use Rattle.format.specs.Encoding.{limit};
 ghost use Rattle.write.specs.Run.{row_bytes, run_bytes};
 ghost use Rattle.write.specs.Section.{entry_count};
@@ -14,9 +15,9 @@ use table::{Row, Tag};
 // Stores the entry that a row of a tag is, and answers the place after it.
 #[tactic(auto, unfolding(crate::specs::Run::row_bytes))]
 fn write_row(source: &Source, tag: Tag, row: Row, output: &mut [u8], at: usize) -> usize
-    requires { at + length (row_bytes source.now.payload.now source.now.edit.now tag row) ≤ limit }
-    ensures value { result ≡ at + length (row_bytes source.now.payload.now source.now.edit.now tag row) }
-    ensures output_after { output.new ≡ sets output.old at (row_bytes source.now.payload.now source.now.edit.now tag row) }
+    requires { at + length (row_bytes source.now.sides.payload.now source.now.sides.edit.now tag row) ≤ limit }
+    ensures value { result ≡ at + length (row_bytes source.now.sides.payload.now source.now.sides.edit.now tag row) }
+    ensures output_after { output.new ≡ sets output.old at (row_bytes source.now.sides.payload.now source.now.sides.edit.now tag row) }
 {
     match tag {
         Tag::Content => write_content(output, at, source.text(row)),
@@ -25,6 +26,14 @@ fn write_row(source: &Source, tag: Tag, row: Row, output: &mut [u8], at: usize) 
         // a row that begins a section is no entry
         _ => at,
     }
+}
+
+// Whether a row is of a tag.
+#[tactic(auto, using(table::proofs::Tags::same_tags))]
+fn is_of(row: Row, tag: Tag) -> bool
+    ensures { result ≡ same_tag (tag_of row.tag) (Some tag) }
+{
+    Tag::from_u32(row.tag) == Some(tag)
 }
 
 // Stores the entries that the rows of a tag are, from an index on, at a place and on. Answers the position after them.
@@ -37,16 +46,16 @@ pub fn write_run(
     start: usize,
 ) -> Position
     requires first_in_bounds { first ≤ length (rows source.now) }
-    requires rows_bound { start + length (run_bytes source.now.payload.now source.now.edit.now tag (drop first (rows source.now))) ≤ limit }
-    ensures index_value { result.index ≡ first + entry_count tag (drop first (rows source.now)) }
-    ensures at_value { result.at ≡ start + length (run_bytes source.now.payload.now source.now.edit.now tag (drop first (rows source.now))) }
-    ensures output_after { output.new ≡ sets output.old start (run_bytes source.now.payload.now source.now.edit.now tag (drop first (rows source.now))) }
+    requires rows_bound { start + length (run_bytes source.now.sides.payload.now source.now.sides.edit.now tag (drop first (rows source.now))) ≤ limit }
+    ensures index_value { result.index ≡ first + entry_count (Some tag) (drop first (rows source.now)) }
+    ensures at_value { result.at ≡ start + length (run_bytes source.now.sides.payload.now source.now.sides.edit.now tag (drop first (rows source.now))) }
+    ensures output_after { output.new ≡ sets output.old start (run_bytes source.now.sides.payload.now source.now.sides.edit.now tag (drop first (rows source.now))) }
 {
     let count = source.count();
     let mut at = start;
     for index in first..count {
         let row = source.row(index);
-        if !Tag::from_u32(row.tag).same(tag) {
+        if !is_of(row, tag) {
             return Position { index, at };
         }
         at = write_row(source, tag, row, output, at);

@@ -1,16 +1,15 @@
-// What is written: the rows of a table, with the payload and the edit text that they name texts and bytes of.
+// What is written: the rows of a table, with the two sides that they name texts and bytes of.
 ghost use Rattle.std.specs.Prelude.{◌≡◌, length, get_or};
 ghost use Rattle.layout.specs.Spans.{span_bytes};
 ghost use Rattle.table.specs.Rows.{rows_of, no_row, bytes_span, text_span, value_span};
 
-use layout::{bytes_of, text_of};
+use layout::Sides;
 use table::Row;
 use wire::TextLength;
 
 #[derive(Clone, Copy)]
 pub struct Source<'a> {
-    pub payload: &'a [u8],
-    pub edit: &'a [u8],
+    pub sides: Sides<'a>,
     pub rows: &'a [u32],
 }
 
@@ -31,22 +30,22 @@ impl<'a> Source<'a> {
 
     // The text that an entry's row names; of a pair it is the name.
     pub fn text(&self, row: Row) -> &'a [u8]
-        ensures { result.now ≡ span_bytes self.now.payload.now self.now.edit.now (text_span row) }
+        ensures { result.now ≡ span_bytes self.now.sides.payload.now self.now.sides.edit.now (text_span row) }
     {
-        text_of(self.payload, self.edit, row.side, row.a, TextLength(row.b))
+        self.sides.text_of(row.side, row.a, TextLength(row.b))
     }
 
     // The value that a pair's row names.
     pub fn value(&self, row: Row) -> &'a [u8]
-        ensures { result.now ≡ span_bytes self.now.payload.now self.now.edit.now (value_span row) }
+        ensures { result.now ≡ span_bytes self.now.sides.payload.now self.now.sides.edit.now (value_span row) }
     {
-        text_of(self.payload, self.edit, row.side, row.c, TextLength(row.d))
+        self.sides.text_of(row.side, row.c, TextLength(row.d))
     }
 
     // The bytes that the row of a packed or an unknown section names.
     pub fn bytes(&self, row: Row) -> &'a [u8]
-        ensures { result.now ≡ span_bytes self.now.payload.now self.now.edit.now (bytes_span row) }
+        ensures { result.now ≡ span_bytes self.now.sides.payload.now self.now.sides.edit.now (bytes_span row) }
     {
-        bytes_of(self.payload, self.edit, row.side, row.b, row.c)
+        self.sides.bytes_of(row.side, row.b, row.c)
     }
 }

@@ -21,20 +21,20 @@ fn write_section(source: &Source, output: &mut [u8], position: &mut Position)
     ensures output_after { output.new ≡ sets output.old position.old.at (encode_section (section source.now position.old)) }
 {
     match Tag::from_u32(source.row(position.index).tag) {
-        Tag::PlainContents => write_plain(source, output, position),
-        Tag::PackedContents => write_packed(source, output, position),
-        Tag::Names => write_names(source, output, position),
-        Tag::Arguments => write_arguments(source, output, position),
-        Tag::Unknown => write_unknown(source, output, position),
+        Some(Tag::PlainContents) => write_plain(source, output, position),
+        Some(Tag::PackedContents) => write_packed(source, output, position),
+        Some(Tag::Names) => write_names(source, output, position),
+        Some(Tag::Arguments) => write_arguments(source, output, position),
+        Some(Tag::Unknown) => write_unknown(source, output, position),
         // no entry begins a section, so no entry comes here
         _ => unreachable!(),
     }
 }
 
 // All sections, after the main header. Answers how many they are. The one position is made here, lent for each section,
-// and stands past the last one where no row is left; a turn moves it on by a whole section, so no range gives its index.
+// and stands past the last one where no row is left; a turn moves it on by a whole section, so no range gives its index, and how many there are is known as they are written.
 fn write_sections(source: &Source, output: &mut [u8]) -> u16
-    requires { is_ok (written source.now.payload.now source.now.edit.now (rows source.now)) ≡ true }
+    requires { is_ok (written source.now.sides.payload.now source.now.sides.edit.now (rows source.now)) ≡ true }
     ensures value { result ≡ length (all_sections source.now) }
     ensures output_after { output.new ≡ sets output.old 8 (flat_map encode_section (all_sections source.now)) }
 {
@@ -53,7 +53,7 @@ fn write_sections(source: &Source, output: &mut [u8]) -> u16
 
 // The payload that rows are written as, of so many bytes, from the output's start on.
 pub fn write_srci(source: &Source, output: &mut [u8], size: u32)
-    requires rows_value { is_ok (written source.now.payload.now source.now.edit.now (rows source.now)) ≡ true }
+    requires rows_value { is_ok (written source.now.sides.payload.now source.now.sides.edit.now (rows source.now)) ≡ true }
     requires size_value { size ≡ length (encode (all_sections source.now)) }
     ensures { output.new ≡ sets output.old 0 (encode (all_sections source.now)) }
 {

@@ -1,6 +1,6 @@
 // The section writers. Each is lent the one output position, stores the section that the position's row begins, and moves the
 // position on past it. One for each kind, as document 01 has it; what they share is `store_body`.
-ghost use Rattle.std.specs.Prelude.{◌≡◌};
+ghost use Rattle.std.specs.Prelude.{◌≡◌, Some};
 ghost use Rattle.std.proofs.lemmas.List.Edits.{sets};
 ghost use Rattle.table.specs.declared.tag.Tag.TheVariants as tag;
 ghost use Rattle.format.specs.Encoding.{encode_section};
@@ -15,7 +15,7 @@ use table::Tag;
 
 // Arguments.
 pub fn write_arguments(source: &Source, output: &mut [u8], position: &mut Position)
-    requires { MayWrite source.now tag.Arguments position.old }
+    requires { MayWrite source.now (Some tag.Arguments) position.old }
     ensures position_after { position.new ≡ after source.now position.old }
     ensures output_after { output.new ≡ sets output.old position.old.at (encode_section (section source.now position.old)) }
 {
@@ -29,7 +29,7 @@ pub fn write_arguments(source: &Source, output: &mut [u8], position: &mut Positi
 
 // Names.
 pub fn write_names(source: &Source, output: &mut [u8], position: &mut Position)
-    requires { MayWrite source.now tag.Names position.old }
+    requires { MayWrite source.now (Some tag.Names) position.old }
     ensures position_after { position.new ≡ after source.now position.old }
     ensures output_after { output.new ≡ sets output.old position.old.at (encode_section (section source.now position.old)) }
 {
@@ -43,7 +43,7 @@ pub fn write_names(source: &Source, output: &mut [u8], position: &mut Position)
 
 // Plain contents.
 pub fn write_plain(source: &Source, output: &mut [u8], position: &mut Position)
-    requires { MayWrite source.now tag.PlainContents position.old }
+    requires { MayWrite source.now (Some tag.PlainContents) position.old }
     ensures position_after { position.new ≡ after source.now position.old }
     ensures output_after { output.new ≡ sets output.old position.old.at (encode_section (section source.now position.old)) }
 {
@@ -67,7 +67,7 @@ pub fn write_plain(source: &Source, output: &mut [u8], position: &mut Position)
 
 // Packed contents.
 pub fn write_packed(source: &Source, output: &mut [u8], position: &mut Position)
-    requires { MayWrite source.now tag.PackedContents position.old }
+    requires { MayWrite source.now (Some tag.PackedContents) position.old }
     ensures position_after { position.new ≡ after source.now position.old }
     ensures output_after { output.new ≡ sets output.old position.old.at (encode_section (section source.now position.old)) }
 {
@@ -90,7 +90,7 @@ pub fn write_packed(source: &Source, output: &mut [u8], position: &mut Position)
 
 // A section of an unknown kind.
 pub fn write_unknown(source: &Source, output: &mut [u8], position: &mut Position)
-    requires { MayWrite source.now tag.Unknown position.old }
+    requires { MayWrite source.now (Some tag.Unknown) position.old }
     ensures position_after { position.new ≡ after source.now position.old }
     ensures output_after { output.new ≡ sets output.old position.old.at (encode_section (section source.now position.old)) }
 {

@@ -1,6 +1,6 @@
 -- `read` meets its contract: the first pass gives the definition's fault or its number of rows, and the second stores the definition's rows, which are those
 -- of the walk.
-use Rattle.std.proofs.Common.{ℕ, ◌/◌, ◌≤◌, List, length, ap, sym, ◌∙◌, arith, Err, Ok}
+use Rattle.std.proofs.Common.{ℕ, ◌/◌, ◌≤◌, List, length, ap, sym, ◌∙◌, arith, Err, Ok, is_ok}
 use Rattle.std.proofs.lemmas.Result.{err_from_is_err_and}
 use Rattle.table.specs.Rows.{width}
 use Rattle.table.specs.declared.row.Row.{Row}
@@ -23,6 +23,11 @@ returns-then-rows-count c =
     let (rs, is, count) = taking-ok length _ _ (sym c.in_ok-count.ensures) in
     let short = too_few c.args.payload.now c.args.rows.now is (omega (arith, count)) in
     record { value = ap (λ (k : ℕ). Err (NoRows k)) (sym count) ∙ sym short.0; rows_after = sym short.1 }
+
+pub invariant_of-checked-clause-accepted : goal.invariant_of-checked-clause-accepted
+invariant_of-checked-clause-accepted c =
+    let (rs, is, count) = taking-ok length _ _ (sym c.in_ok-count.ensures) in
+    ap is_ok is
 
 pub returns : goal.returns
 returns c =

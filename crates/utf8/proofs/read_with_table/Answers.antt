@@ -3,6 +3,6 @@ use Rattle.utf8.specs.Classes.{place_in, class_of}
 use Rattle.utf8.proofs.ClassTable.{class-table}
 use Rattle.utf8.proofs.read_with_table.Goals as goal
 
-pub read_octets-requires : goal.read_octets-requires
+pub invariant_of-read_octets : goal.invariant_of-read_octets
 unfolding class_of place_in
-read_octets-requires c = class-table _ tt
+invariant_of-read_octets c = record { of_each_byte = class-table _ tt }

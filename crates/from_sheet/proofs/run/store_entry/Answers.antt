@@ -47,7 +47,3 @@ returns-in-Arguments c = rw (← c.in-Arguments.ensures) (record { value = omega
 pub returns-in-Unknown : goal.returns-in-Unknown
 unfolding entry_bytes
 returns-in-Unknown c = rw (← c.in-Unknown.ensures) (record { value = omega arith; output_after = refl })
-
-pub returns-in-None : goal.returns-in-None
-unfolding entry_bytes
-returns-in-None c = rw (← c.in-None.ensures) (record { value = omega arith; output_after = refl })

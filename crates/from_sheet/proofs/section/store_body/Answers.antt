@@ -5,17 +5,17 @@ use Rattle.from_sheet.proofs.section.store_body.Goals as goal
 
 pub write_unpaired-requires-clause-field_in_bounds : goal.write_unpaired-requires-clause-field_in_bounds
 write_unpaired-requires-clause-field_in_bounds c =
-    let own = packed-own c.args.record.now c.args.records.now _ c.requires.order c.in-PackedContents.ensures c.field.ensures.value in
+    let own = packed-own c.args.record.now c.args.records.now _ c.in-PackedContents.ensures c.field.ensures.value in
     omega (arith, ap length own.stored)
 
 pub write_unpaired-requires-in-Unknown-clause-field_in_bounds : goal.write_unpaired-requires-in-Unknown-clause-field_in_bounds
 write_unpaired-requires-in-Unknown-clause-field_in_bounds c =
-    let own = unknown-own c.args.record.now c.args.records.now _ c.requires.order c.in-Unknown.ensures c.field-in-Unknown.ensures.value in
+    let own = unknown-own c.args.record.now c.args.records.now _ c.in-Unknown.ensures c.field-in-Unknown.ensures.value in
     omega (arith, ap length own.stored)
 
 pub returns-in-PackedContents : goal.returns-in-PackedContents
 returns-in-PackedContents c =
-    let own = packed-own c.args.record.now c.args.records.now _ c.requires.order c.in-PackedContents.ensures c.field.ensures.value in
+    let own = packed-own c.args.record.now c.args.records.now _ c.in-PackedContents.ensures c.field.ensures.value in
     record {
       records_after = sym own.past_all;
       to_value = rw own.stored c.write_unpaired.ensures.value;
@@ -25,7 +25,7 @@ returns-in-PackedContents c =
 
 pub returns-in-Unknown : goal.returns-in-Unknown
 returns-in-Unknown c =
-    let own = unknown-own c.args.record.now c.args.records.now _ c.requires.order c.in-Unknown.ensures c.field-in-Unknown.ensures.value in
+    let own = unknown-own c.args.record.now c.args.records.now _ c.in-Unknown.ensures c.field-in-Unknown.ensures.value in
     record {
       records_after = sym own.past_all;
       to_value = rw own.stored c.write_unpaired-in-Unknown.ensures.value;
@@ -38,19 +38,19 @@ store_entries-requires c =
     let r = c.args.record.now in
     let rs = c.args.records.now in
     let stored = entries-stored r.tag r rs c.requires.begins (λ e. c.in_default.not-PackedContents (c.tag.ensures ∙ e)) (λ e. c.in_default.not-Unknown (c.tag.ensures ∙ e)) in
-    rw (c.entry_tag.ensures, c.tag.ensures)
+    rw (c.in-Some.ensures, c.tag.ensures)
     (record {
-      few = omega (arith, few-entries r.tag r rs c.requires.begins c.requires.order, c.requires.bound);
+      few = omega (arith, few-entries r.tag r rs c.requires.begins, c.requires.bound);
       in_bounds = omega (arith, ap length stored, c.requires.in_bounds);
       bound = omega (arith, ap length stored, c.requires.bound);
     })
 
-pub returns-in_default : goal.returns-in_default
-returns-in_default c =
+pub returns-in-Some : goal.returns-in-Some
+returns-in-Some c =
     let r = c.args.record.now in
     let rs = c.args.records.now in
     let stored = entries-stored r.tag r rs c.requires.begins (λ e. c.in_default.not-PackedContents (c.tag.ensures ∙ e)) (λ e. c.in_default.not-Unknown (c.tag.ensures ∙ e)) in
-    let e = rw (c.entry_tag.ensures, c.tag.ensures) at c.store_entries.ensures in
+    let e = rw (c.in-Some.ensures, c.tag.ensures) at c.store_entries.ensures in
     record {
       records_after = e.records_after;
       to_value = rw stored e.to_value;

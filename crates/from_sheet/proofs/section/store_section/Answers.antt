@@ -10,10 +10,9 @@ store_body-body-requires c =
     let rs = c.args.records.now in
     let h = begun-here r rs c.requires.order in
     let within = body-within r rs c.requires.order in
-    rw (c.header_size.ensures, c.tag.ensures)
+    rw (c.headers_size.ensures, c.tag.ensures)
     (record {
       begins = h.begins;
-      order = h.order;
       in_bounds = omega (arith, within, c.requires.in_bounds);
       bound = omega (arith, within, c.requires.bound);
     })
@@ -21,7 +20,7 @@ store_body-body-requires c =
 pub overflow_cast-body : goal.overflow_cast-body
 overflow_cast-body c =
     let within = body-within c.args.record.now c.args.records.now c.requires.order in
-    let e = rw (c.header_size.ensures, c.tag.ensures) at c.store_body-body.ensures.to_value in
+    let e = rw (c.headers_size.ensures, c.tag.ensures) at c.store_body-body.ensures.to_value in
     omega (arith, within, e, c.requires.bound)
 
 pub overflow_cast-body-2 : goal.overflow_cast-body-2
@@ -37,7 +36,7 @@ pub returns : goal.returns
 returns c =
     let r = c.args.record.now in
     let rs = c.args.records.now in
-    let body = rw (c.header_size.ensures, c.tag.ensures) at c.store_body-body.ensures in
+    let body = rw (c.headers_size.ensures, c.tag.ensures) at c.store_body-body.ensures in
     let (after, stored) = closed-here r rs c.requires.order c.args.output.now c.store_body-body.new.output c.close.new.output c.args.to c.store_body-body.result.to c.store_body-body.result.count c.close.result
     body.to_value body.output_after body.count_value c.close.ensures.value c.close.ensures.framed in
     record {

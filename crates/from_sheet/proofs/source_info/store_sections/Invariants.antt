@@ -1,7 +1,6 @@
 -- The loop of `store_sections`: the sections left, stored from here on, give the output that all sections give, and with those counted they are all.
-use Rattle.std.proofs.Common.{◌≡◌, ◌+◌, true, length}
+use Rattle.std.proofs.Common.{None, ◌≡◌, ◌+◌, true, length}
 use mathlib.Core.List.{flat_map}
-use Rattle.table.specs.declared.tag.Tag.TheVariants.{None}
 use Rattle.format.specs.Encoding.{encode_section}
 use Rattle.format.specs.Records.{in_order, sections}
 use Rattle.format.proofs.Storing.{Left}

@@ -7,23 +7,27 @@ use Rattle.std.proofs.lemmas.Result.{err_from_is_err_and}
 use Rattle.layout.specs.declared.refusal.Refusal.TheVariants.{BadLine}
 use Rattle.sheet.specs.Lines.{read_line}
 use Rattle.line_reader.specs.declared.line.LineSizes.{LineSizes}
-use Rattle.line_reader.proofs.LineLaws.{line-misplaced, line-miscounted, line-unsized, line-sized}
+use Rattle.line_reader.proofs.LineLaws.{line-untagged, line-misplaced, line-miscounted, line-unsized, line-sized}
 use Rattle.line_reader.proofs.line.check_line.Goals as goal
+
+pub returns-in_default : goal.returns-in_default
+unfolding read_line
+returns-in_default c = rw (← c.new-line.ensures, ← c.in_default.ensures) (sym (line-untagged _ c.args.previous _))
 
 pub returns-then-not-is_placed : goal.returns-then-not-is_placed
 unfolding read_line
-returns-then-not-is_placed c = rw (← c.new-line.ensures, ← c.tag-tag.ensures) (sym (line-misplaced _ _ _ _ (sym c.is_placed.ensures ∙ c.if-not-is_placed.true)))
+returns-then-not-is_placed c = rw (← c.new-line.ensures, ← c.in-Some.ensures) (sym (line-misplaced _ _ _ _ (sym c.is_placed.ensures ∙ c.if-not-is_placed.true)))
 
 pub returns-then-not-has_fields : goal.returns-then-not-has_fields
 unfolding read_line
-returns-then-not-has_fields c = rw (← c.new-line.ensures, ← c.tag-tag.ensures) (sym (line-miscounted _ _ _ _ (cc)))
+returns-then-not-has_fields c = rw (← c.new-line.ensures, ← c.in-Some.ensures) (sym (line-miscounted _ _ _ _ (cc)))
 
 pub returns-in_err-sizes : goal.returns-in_err-sizes
 unfolding read_line
 returns-in_err-sizes c =
     let p = err_from_is_err_and c.from_residual.result c.from_residual.ensures.1 in
     let none : c.measure.result ≡ None = c.ok_or.ensures.ok_part ∙ ap result_ok c.in_err-sizes.was in
-    rw (← c.new-line.ensures, ← c.tag-tag.ensures)
+    rw (← c.new-line.ensures, ← c.in-Some.ensures)
     (p.1 ∙ ap Err p.2 ∙ sym c.in_err-sizes.was ∙ c.ok_or.ensures.value ∙ ap (λ (o : Option LineSizes). ok_or o (BadLine c.args.number)) none ∙
     sym (line-unsized _ _ _ _ (sym c.is_placed.ensures ∙ c.if-not-is_placed.false) (cc) (sym c.measure.ensures ∙ none)))
 
@@ -32,7 +36,7 @@ unfolding read_line
 returns-in_err-check_texts c =
     let p = err_from_is_err_and c.from_residual-in_err-check_texts.result c.from_residual-in_err-check_texts.ensures.1 in
     let sizes = c.ok_or.ensures.ok_part ∙ ap result_ok c.in_ok-sizes.was in
-    rw (← c.new-line.ensures, ← c.tag-tag.ensures)
+    rw (← c.new-line.ensures, ← c.in-Some.ensures)
     (p.1 ∙ ap Err p.2 ∙
     sym (line-sized _ _ _ _ (sym c.is_placed.ensures ∙ c.if-not-is_placed.false) (cc) _ _ (sym c.measure.ensures ∙ sizes) (sym c.check_texts.ensures ∙ c.in_err-check_texts.was)))
 
@@ -40,5 +44,5 @@ pub returns : goal.returns
 unfolding read_line
 returns c =
     let sizes = c.ok_or.ensures.ok_part ∙ ap result_ok c.in_ok-sizes.was in
-    rw (← c.new-line.ensures, ← c.tag-tag.ensures)
+    rw (← c.new-line.ensures, ← c.in-Some.ensures)
     (sym (line-sized _ _ _ _ (sym c.is_placed.ensures ∙ c.if-not-is_placed.false) (cc) _ _ (sym c.measure.ensures ∙ sizes) (sym c.check_texts.ensures ∙ c.in_ok-check_texts.was)))

@@ -1,10 +1,10 @@
--- The loop of `text_size`: what the text to come tells after the size so far is what all of it tells.
-use Rattle.std.proofs.Common.{◌≡◌, ◌≤◌, ◌-◌, length, drop}
+-- The loop of `text_size`: what the rest tells after the size so far is what all of it tells.
+use Rattle.std.proofs.Common.{◌≡◌, ◌≤◌, ◌+◌, length}
 use Rattle.line_reader.specs.Sizes.{text_told}
 use Rattle.line_reader.proofs.text.text_size.Given as goal
 
-abbrev pub invariant-loop-at : goal.invariant-loop-at
-invariant-loop-at l = record { within : l.at ≤ length l.field; small : l.size ≤ l.at; told : text_told l.size (drop l.at l.field) ≡ text_told 0 l.field }
+abbrev pub invariant-loop-rest : goal.invariant-loop-rest
+invariant-loop-rest l = record { small : l.size + length l.rest ≤ length l.field; told : text_told l.size l.rest ≡ text_told 0 l.field }
 
-abbrev pub decreases-loop-at : goal.decreases-loop-at
-decreases-loop-at l = length l.field - l.at
+abbrev pub decreases-loop-rest : goal.decreases-loop-rest
+decreases-loop-rest l = length l.rest

@@ -4,7 +4,7 @@ use Rattle.format.proofs.PairLaws.{text-plain}
 use Rattle.parse.specs.Outcome.{maybe_text}
 use Rattle.parse.proofs.arguments.check_pair_text.Goals as goal
 
-pub returns-then-payload-stop-eq0 : goal.returns-then-payload-stop-eq0
-returns-then-payload-stop-eq0 c =
+pub returns-then-part-stop-eq0 : goal.returns-then-part-stop-eq0
+returns-then-part-stop-eq0 c =
     let stop = c.plain_end-stop in
-    sym (ap maybe_text (text-plain c.args.payload.now c.args.at c.args.end stop.result stop.ensures.lower_bound.0 (omega arith) (omega arith) stop.ensures.by_index (omega arith)))
+    sym (ap maybe_text (text-plain c.args.part.payload.now c.args.at c.args.part.end stop.result stop.ensures.bounds.0 (omega arith) c.args.part.within stop.ensures.by_index (omega arith)))

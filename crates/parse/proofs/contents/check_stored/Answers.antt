@@ -8,4 +8,4 @@ use Rattle.parse.proofs.contents.check_stored.Goals as goal
 pub overflow_add-result : goal.overflow_add-result
 overflow_add-result c =
     let (rs, found, count) = taking-ok length _ _ (sym c.in_ok-entries.ensures) in
-    omega (arith, entries-bound 12 _ _ content_row_at _ _ rs found, count, c.requires.bytes_in_bounds, c.requires.payload_len_bound)
+    omega (arith, entries-bound 12 _ _ content_row_at _ _ rs found, count, c.requires.bytes_in_bounds, c.args.section.within, c.args.section.limited)

@@ -19,7 +19,7 @@ pub returns-in_default : goal.returns-in_default
 unfolding entry check
 returns-in_default c =
     let none : c.read_u32-size.result ≡ 0 = no_text c.read_u32-size.result (omega arith) (sym c.in_default.ensures) in
-    rw (← c.read_u32.ensures, ← c.read_u32-size.ensures, le-leb (c.args.at + c.args.header) c.args.end (omega arith), eq-eqb _ 0 c.if-read_u32-ne0.false, none)
+    rw (← c.read_u32.ensures, ← c.read_u32-size.ensures, le-leb (c.args.at + c.args.header) c.args.part.end (omega arith), eq-eqb _ 0 c.if-read_u32-ne0.false, none)
 
 -- the size counts the text and its terminator
 pub terminated_utf8-requires-clause-text_bound : goal.terminated_utf8-requires-clause-text_bound
@@ -67,7 +67,7 @@ returns-in_err-terminated_utf8 c =
     let p = err_from_is_err_and c.from_residual.result c.from_residual.ensures.1 in
     let counts = wire_size-terminated c.read_u32-size.result _ (sym c.in-Some.ensures) in
     let whole = c.align4-aligned.ensures in
-    let text = sym (asked _ c.args.at _ _ c.args.end _ _ c.args.header refl counts whole) ∙ sym c.in_err-terminated_utf8.ensures in
+    let text = sym (asked _ c.args.at _ _ c.args.part.end _ _ c.args.header refl counts whole) ∙ sym c.in_err-terminated_utf8.ensures in
     rw (p.1, p.2)
     (sym (ap (place_of _) (held _ _ _ _ _ _ (record {
       fits = omega arith;
@@ -83,7 +83,7 @@ pub returns : goal.returns
 returns c =
     let counts = wire_size-terminated c.read_u32-size.result _ (sym c.in-Some.ensures) in
     let whole = c.align4-aligned.ensures in
-    let text = sym (asked _ c.args.at _ _ c.args.end _ _ c.args.header refl counts whole) ∙ sym c.in_ok-terminated_utf8.ensures in
+    let text = sym (asked _ c.args.at _ _ c.args.part.end _ _ c.args.header refl counts whole) ∙ sym c.in_ok-terminated_utf8.ensures in
     let back : wire_size (c.read_u32-size.result - 1) ≡ c.read_u32-size.result = omega (arith, counts) in
     sym (ap (place_of _) (held _ _ _ _ _ _ (record {
       fits = omega arith;

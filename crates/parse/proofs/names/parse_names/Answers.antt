@@ -12,13 +12,13 @@ use Rattle.format.proofs.EntryLaws.{entries-bound}
 use Rattle.format.proofs.FrameLaws.{framed-good}
 use Rattle.parse.specs.Outcome.{counted, add}
 use Rattle.parse.proofs.Count.{counted-more}
-use Rattle.parse.proofs.EntryCount.{entries-rows}
+use Rattle.parse.proofs.RunLaws.{entries-run}
 use Rattle.parse.proofs.names.parse_names.Goals as goal
 
-pub check_entries-requires : goal.check_entries-requires
-check_entries-requires c =
-    let within = (framed-good _ _ c.args.size 18 _ (sym c.in_ok-check_framed.ensures)).within in
-    (omega arith, omega (arith, within, c.requires.size_in_bounds))
+pub invariant_of-check_entries-clause-within : goal.invariant_of-check_entries-clause-within
+invariant_of-check_entries-clause-within c =
+    let within = (framed-good _ _ c.args.section.size 18 _ (sym c.in_ok-check_framed.ensures)).within in
+    omega (arith, within, c.args.section.within)
 
 -- what is counted once the tests before the entries have held
 counts :
@@ -33,7 +33,7 @@ unfolding parse_names check then
 counts p at size bytes count long flags stored many fits =
     rw (le-leb 18 size long, eq-eqb _ 0 flags, ← stored, ← many, fits)
     (counted-more names_row (entries 16 (name_row_at p) count p (at + 18) (at + 18 + bytes))
-    ∙ ap (add 1) (entries-rows _ _ _ (name_row_at p) content_row_at count (at + 18)))
+    ∙ ap (add 1) (sym (entries-run p _ 16 (name_row_at p) count (at + 18)) ∙ entries-run p _ 16 content_row_at count (at + 18)))
 
 pub returns-in_err-entries : goal.returns-in_err-entries
 returns-in_err-entries c =
@@ -44,9 +44,9 @@ returns-in_err-entries c =
 
 pub overflow_add-result : goal.overflow_add-result
 overflow_add-result c =
-    let within = (framed-good _ _ c.args.size 18 _ (sym c.in_ok-check_framed.ensures)).within in
+    let within = (framed-good _ _ c.args.section.size 18 _ (sym c.in_ok-check_framed.ensures)).within in
     let (rs, found, count) = taking-ok length _ _ (sym c.in_ok-entries.ensures) in
-    omega (arith, within, entries-bound 16 _ _ content_row_at _ _ rs found, count, c.requires.size_in_bounds, c.requires.payload_len_bound)
+    omega (arith, within, entries-bound 16 _ _ content_row_at _ _ rs found, count, c.args.section.within, c.args.section.limited)
 
 pub returns : goal.returns
 returns c =

@@ -11,8 +11,8 @@ returns-in_err-section c =
     let so = c.loop-done.invariant in
     rw (p.1, p.2) (stops-at-header _ _ _ _ _ so.passed (omega arith) _ (rw so.same at (sym c.in_err-section.ensures.0)))
 
-pub parse_section-requires-clause-size_in_bounds : goal.parse_section-requires-clause-size_in_bounds
-parse_section-requires-clause-size_in_bounds c =
+pub invariant_of-part-clause-within : goal.invariant_of-part-clause-within
+invariant_of-part-clause-within c =
     let so = c.loop-done.invariant in
     (inside _ _ _ (rw so.same at (sym c.in_ok-section.ensures.0))).1
 

@@ -22,7 +22,7 @@ turn p count end done at inside more good =
     first_entry p end inside left at found.0 found.1
 
 pub loop-done-init : goal.loop-done-init
-loop-done-init c = rw sub-zero (record { good = c.requires.end_value; behind = c.requires.to_le_start; rest = left-all refl })
+loop-done-init c = rw sub-zero (record { good = c.requires.end_value; small = omega (arith, c.requires.to_bound); rest = left-all refl })
 
 pub overflow_add-at : goal.overflow_add-at
 overflow_add-at c =
@@ -37,11 +37,11 @@ slice_bounds-write_bytes-end c =
 pub overflow_add-next : goal.overflow_add-next
 overflow_add-next c =
     let t = turn _ _ _ _ _ c.requires.end_in_bounds c.loop-done-test.true c.loop-done.invariant.good in
-    omega (arith, t.within, c.loop-done.invariant.behind)
+    omega (arith, t.within, c.loop-done.invariant.small)
 
 pub loop-done-preserved : goal.loop-done-preserved
 loop-done-preserved c =
-    let p = c.args.payload.now in
+    let p = c.args.section.payload.now in
     let l = c.loop-done in
     let at = l.at in
     let size = u32_at p at in
@@ -52,7 +52,7 @@ loop-done-preserved c =
     rw c.read_u32-size.ensures
     (record {
       good = ap is_ok t.others;
-      behind = omega (arith, l.invariant.behind);
+      small = omega (arith, l.invariant.small);
       rest =
           left-next (name_copy p at) _ (names-next p c.args.count l.done c.loop-done-test.true at) l.invariant.rest
           (ap (λ k. l.next + k) (sym (name-long p at size t.least within refl)))
@@ -60,4 +60,4 @@ loop-done-preserved c =
     })
 
 pub returns : goal.returns
-returns c = (left-none (names-end c.args.payload.now c.args.count c.loop-done.done c.loop-done-test.false c.loop-done.at) c.loop-done.invariant.rest).1
+returns c = (left-none (names-end c.args.section.payload.now c.args.count c.loop-done.done c.loop-done-test.false c.loop-done.at) c.loop-done.invariant.rest).1

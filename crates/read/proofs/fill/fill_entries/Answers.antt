@@ -5,12 +5,12 @@ use Rattle.read.specs.Entry.{entry_row}
 use Rattle.read.proofs.StoreSteps.{entries-store-step, entries-store-done}
 use Rattle.read.proofs.fill.fill_entries.Goals as goal
 
-pub entry_row-requires-clause-at_in_bounds : goal.entry_row-requires-clause-at_in_bounds
-entry_row-requires-clause-at_in_bounds c = omega (arith, c.loop-done.invariant.within, entries-forward c.args.payload.now (c.args.count - c.loop-done.done) c.loop-done.at)
+pub entry_row-requires : goal.entry_row-requires
+entry_row-requires c = omega (arith, c.loop-done.invariant.within, entries-forward c.args.section.payload.now (c.args.count - c.loop-done.done) c.loop-done.at)
 
 pub loop-done-preserved : goal.loop-done-preserved
 loop-done-preserved c =
-    let p = c.args.payload.now in
+    let p = c.args.section.payload.now in
     let l = c.loop-done in
     rw c.read_u32.ensures
     (record {
@@ -21,4 +21,4 @@ loop-done-preserved c =
 pub returns : goal.returns
 returns c =
     let l = c.loop-done in
-    sym (entries-store-done c.args.payload.now c.args.count l.done c.loop-done-test.false (entry_row c.args.payload.now c.args.kind) l.at (c.args.index + l.done) l.rows) ∙ l.invariant.rest
+    sym (entries-store-done c.args.section.payload.now c.args.count l.done c.loop-done-test.false (entry_row c.args.section.payload.now c.args.kind) l.at (c.args.index + l.done) l.rows) ∙ l.invariant.rest

@@ -7,6 +7,6 @@ use Rattle.read.proofs.fill.fill_entries.Given as goal
 
 abbrev pub invariant-loop-done : goal.invariant-loop-done
 invariant-loop-done l = record {
-  within : entries_end l.payload (l.count - l.done) l.at ≤ length l.payload;
-  rest : store_rows l.rows (l.index + l.done) (walk_entries l.payload (entry_row l.payload l.kind) (l.count - l.done) l.at) ≡ store_rows l.fn.rows l.index (walk_entries l.payload (entry_row l.payload l.kind) l.count l.start);
+  within : entries_end l.section.payload.now (l.count - l.done) l.at ≤ length l.section.payload.now;
+  rest : store_rows l.rows (l.index + l.done) (walk_entries l.section.payload.now (entry_row l.section.payload.now l.kind) (l.count - l.done) l.at) ≡ store_rows l.fn.rows l.index (walk_entries l.section.payload.now (entry_row l.section.payload.now l.kind) l.count l.start);
 }

@@ -6,16 +6,16 @@ use Rattle.format.proofs.Walking.{pairs-forward, pairs-end-step}
 use Rattle.read.proofs.StoreSteps.{pairs-store-step, pairs-store-done}
 use Rattle.read.proofs.fill.fill_pairs.Goals as goal
 
-pub pair_row-row-requires-clause-at_in_bounds : goal.pair_row-row-requires-clause-at_in_bounds
-pair_row-row-requires-clause-at_in_bounds c =
-    let p = c.args.payload.now in
+pub pair_row-row-requires : goal.pair_row-row-requires
+pair_row-row-requires c =
+    let p = c.args.section.payload.now in
     let l = c.loop-done in
     let next = rw (pairs-end-step p c.args.count l.done c.loop-done-test.true l.at) at l.invariant.within in
     omega (arith, next, pairs-forward p (c.args.count - (l.done + 1)) (after_pair (pair_at p l.at)))
 
 pub loop-done-preserved : goal.loop-done-preserved
 loop-done-preserved c =
-    let p = c.args.payload.now in
+    let p = c.args.section.payload.now in
     let l = c.loop-done in
     let after : c.pair_row-row.result.c + c.wire_size.result.0 ≡ after_pair (pair_at p l.at) = rw c.wire_size.ensures (ap after_pair c.pair_row-row.ensures) in
     rw after
@@ -27,4 +27,4 @@ loop-done-preserved c =
 pub returns : goal.returns
 returns c =
     let l = c.loop-done in
-    sym (pairs-store-done c.args.payload.now c.args.count l.done c.loop-done-test.false l.at (c.args.index + l.done) l.rows) ∙ l.invariant.rest
+    sym (pairs-store-done c.args.section.payload.now c.args.count l.done c.loop-done-test.false l.at (c.args.index + l.done) l.rows) ∙ l.invariant.rest

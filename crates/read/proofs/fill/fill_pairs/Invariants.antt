@@ -6,6 +6,6 @@ use Rattle.read.proofs.fill.fill_pairs.Given as goal
 
 abbrev pub invariant-loop-done : goal.invariant-loop-done
 invariant-loop-done l = record {
-  within : pairs_end l.payload (l.count - l.done) l.at ≤ length l.payload;
-  rest : store_rows l.rows (l.index + l.done) (walk_pairs l.payload (l.count - l.done) l.at) ≡ store_rows l.fn.rows l.index (walk_pairs l.payload l.count l.start);
+  within : pairs_end l.section.payload.now (l.count - l.done) l.at ≤ length l.section.payload.now;
+  rest : store_rows l.rows (l.index + l.done) (walk_pairs l.section.payload.now (l.count - l.done) l.at) ≡ store_rows l.fn.rows l.index (walk_pairs l.section.payload.now l.count l.start);
 }

@@ -2,10 +2,10 @@
 use Rattle.std.proofs.Common.{◌≡◌, ℕ, ◌+◌, List, ◌++◌, length, length-append, refl, sym, ap, ◌∙◌, arith}
 use mathlib.Core.List.{flat_map, append-nil}
 use Rattle.wire.specs.Number.{u32_at}
-use Rattle.layout.specs.Kinds.{checked_compression}
 use Rattle.layout.specs.declared.compression.SourceCompression.TheVariants.{None, Zlib}
 use Rattle.layout.proofs.Checked.{is-good}
 use Rattle.format.specs.Display.{ascii, decimal}
+use Rattle.format.specs.Parse.{parse_section}
 use Rattle.format.specs.Walk.{compression_at}
 use Rattle.format.proofs.WalkLaws.{contents-within}
 use Rattle.sheet.specs.Lines.{line}
@@ -37,38 +37,39 @@ plain-read p at header count plain e f =
 
 pub overflow_add-end : goal.overflow_add-end
 overflow_add-end c =
-    let p = c.args.payload.now in
-    let at = c.args.at in
-    let plain = ap checked_compression (sym c.read_u16.ensures) ∙ sym c.checked.ensures ∙ c.in-None.is in
-    let said = plain-read p at _ _ plain c.read_u32-field.ensures c.read_u32-count.ensures in
-    let long = length-append (head c.read_u32-field.result) (entry_lines p (content_at p) c.read_u32-count.result (at + 28)) in
-    omega (arith, c.requires.at_bound_2, ap length said, long, head-long c.read_u32-field.result, c.write_number-end.ensures.value)
+    let p = c.args.section.payload.now in
+    let at = c.args.section.at in
+    let plain = sym c.compression.ensures ∙ c.in-None.is in
+    let said = plain-read p at _ _ plain c.header_field-field.ensures c.content_count-count.ensures in
+    let long = length-append (head c.header_field-field.result) (entry_lines p (content_at p) c.content_count-count.result (at + 28)) in
+    omega (arith, c.requires.len_bound, ap length said, long, head-long c.header_field-field.result, c.write_number-end.ensures.value)
 
 pub write_entries-requires : goal.write_entries-requires
+unfolding parse_section
 write_entries-requires c =
-    let p = c.args.payload.now in
-    let at = c.args.at in
-    let plain = ap checked_compression (sym c.read_u16.ensures) ∙ sym c.checked.ensures ∙ c.in-None.is in
-    let said = plain-read p at _ _ plain c.read_u32-field.ensures c.read_u32-count.ensures in
-    let long = length-append (head c.read_u32-field.result) (entry_lines p (content_at p) c.read_u32-count.result (at + 28)) in
-    let found = is-good _ c.requires.at_value in
+    let p = c.args.section.payload.now in
+    let at = c.args.section.at in
+    let plain = sym c.compression.ensures ∙ c.in-None.is in
+    let said = plain-read p at _ _ plain c.header_field-field.ensures c.content_count-count.ensures in
+    let long = length-append (head c.header_field-field.result) (entry_lines p (content_at p) c.content_count-count.result (at + 28)) in
+    let found = is-good _ (rw c.requires.kind at c.args.section.good) in
     let within = contents-within p at _ found.0 found.1 plain in
     record {
-      start_bound = rw c.read_u32-count.ensures (omega (arith, within, c.requires.at_bound));
-      start_bound_2 = omega (arith, c.requires.at_bound_2, ap length said, long, head-long c.read_u32-field.result, c.write_number-end.ensures.value);
+      start_bound = rw c.content_count-count.ensures (omega (arith, within, c.args.section.within, c.args.section.limited));
+      start_bound_2 = omega (arith, c.requires.len_bound, ap length said, long, head-long c.header_field-field.result, c.write_number-end.ensures.value);
     }
 
 pub returns-in-None : goal.returns-in-None
 unfolding ascii
 returns-in-None c =
     let a = c.args in
-    let p = a.payload.now in
-    let plain = ap checked_compression (sym c.read_u16.ensures) ∙ sym c.checked.ensures ∙ c.in-None.is in
-    let said = plain-read p a.at _ _ plain c.read_u32-field.ensures c.read_u32-count.ensures in
+    let p = a.section.payload.now in
+    let plain = sym c.compression.ensures ∙ c.in-None.is in
+    let said = plain-read p a.section.at _ _ plain c.header_field-field.ensures c.content_count-count.ensures in
     let one : Stored a.output.now a.to (ascii "contents") _ (a.to + 8) = first-stored c.write_bytes.ensures refl in
-    let two = then-stored (field (decimal c.read_u32-field.result)) one c.write_number-end.ensures.output_after c.write_number-end.ensures.value in
+    let two = then-stored (field (decimal c.header_field-field.result)) one c.write_number-end.ensures.output_after c.write_number-end.ensures.value in
     let three = then-stored end two c.write_bytes-in-None.ensures refl in
-    let all = as-line said (then-stored (entry_lines p (content_at p) c.read_u32-count.result (a.at + 28)) three c.write_entries.ensures.output_after c.write_entries.ensures.value) in
+    let all = as-line said (then-stored (entry_lines p (content_at p) c.content_count-count.result (a.section.at + 28)) three c.write_entries.ensures.output_after c.write_entries.ensures.value) in
     record { value = all.ends; output_after = all.is }
 
 -- ---- packed contents
@@ -77,12 +78,12 @@ packed-read : (p : List ℕ) (at : ℕ) → compression_at p at ≡ Zlib → fla
 unfolding contents_records flat_map
 packed-read p at packed = rw packed (append-nil (line (packed_at p at)))
 
-pub write_packed-requires-clause-at_bound : goal.write_packed-requires-clause-at_bound
-write_packed-requires-clause-at_bound c =
-    let packed = ap checked_compression (sym c.read_u16.ensures) ∙ sym c.checked.ensures ∙ c.in-Zlib.is in
-    rw (← packed-read c.args.payload.now c.args.at packed) c.requires.at_bound_2
+pub write_packed-requires : goal.write_packed-requires
+write_packed-requires c =
+    let packed = sym c.compression.ensures ∙ c.in-Zlib.is in
+    rw (← packed-read c.args.section.payload.now c.args.section.at packed) c.requires.len_bound
 
 pub returns-in-Zlib : goal.returns-in-Zlib
 returns-in-Zlib c =
-    let packed = ap checked_compression (sym c.read_u16.ensures) ∙ sym c.checked.ensures ∙ c.in-Zlib.is in
-    rw (packed-read c.args.payload.now c.args.at packed) c.write_packed.ensures
+    let packed = sym c.compression.ensures ∙ c.in-Zlib.is in
+    rw (packed-read c.args.section.payload.now c.args.section.at packed) c.write_packed.ensures

@@ -36,34 +36,34 @@ module _
 
 pub overflow_cast-first : goal.overflow_cast-first
 overflow_cast-first c =
-    let room = fits c.args.payload.now c.args.at _ _ _ _ c.read_u32-field.ensures c.read_u32-count.ensures c.read_u32-uncompressed.ensures c.read_u32-size.ensures c.args.to c.requires.at_bound in
+    let room = fits c.args.section.payload.now c.args.section.at _ _ _ _ c.header_field-field.ensures c.content_count-count.ensures c.uncompressed_size-uncompressed.ensures c.stored_size-size.ensures c.args.to c.requires in
     omega (arith, room, c.write_number-first.ensures.value)
 
 pub overflow_cast-second : goal.overflow_cast-second
 overflow_cast-second c =
-    let room = fits c.args.payload.now c.args.at _ _ _ _ c.read_u32-field.ensures c.read_u32-count.ensures c.read_u32-uncompressed.ensures c.read_u32-size.ensures c.args.to c.requires.at_bound in
+    let room = fits c.args.section.payload.now c.args.section.at _ _ _ _ c.header_field-field.ensures c.content_count-count.ensures c.uncompressed_size-uncompressed.ensures c.stored_size-size.ensures c.args.to c.requires in
     omega (arith, room, c.write_number-first.ensures.value, c.write_number-second.ensures.value)
 
 pub overflow_cast-third : goal.overflow_cast-third
 overflow_cast-third c =
-    let room = fits c.args.payload.now c.args.at _ _ _ _ c.read_u32-field.ensures c.read_u32-count.ensures c.read_u32-uncompressed.ensures c.read_u32-size.ensures c.args.to c.requires.at_bound in
+    let room = fits c.args.section.payload.now c.args.section.at _ _ _ _ c.header_field-field.ensures c.content_count-count.ensures c.uncompressed_size-uncompressed.ensures c.stored_size-size.ensures c.args.to c.requires in
     omega (arith, room, c.write_number-first.ensures.value, c.write_number-second.ensures.value, c.write_number-third.ensures.value)
 
 pub overflow_add-result : goal.overflow_add-result
 overflow_add-result c =
-    let room = fits c.args.payload.now c.args.at _ _ _ _ c.read_u32-field.ensures c.read_u32-count.ensures c.read_u32-uncompressed.ensures c.read_u32-size.ensures c.args.to c.requires.at_bound in
+    let room = fits c.args.section.payload.now c.args.section.at _ _ _ _ c.header_field-field.ensures c.content_count-count.ensures c.uncompressed_size-uncompressed.ensures c.stored_size-size.ensures c.args.to c.requires in
     omega (arith, room, c.write_number-first.ensures.value, c.write_number-second.ensures.value, c.write_number-third.ensures.value, c.write_hex-end.ensures.value)
 
 pub returns : goal.returns
 unfolding ascii
 returns c =
     let a = c.args in
-    let p = a.payload.now in
+    let p = a.section.payload.now in
     let one : Stored a.output.now a.to (ascii "packed") _ (a.to + 6) = first-stored c.write_bytes.ensures refl in
-    let two = then-stored (field (decimal c.read_u32-field.result)) one c.write_number-first.ensures.output_after c.write_number-first.ensures.value in
-    let three = then-stored (field (decimal c.read_u32-count.result)) two c.write_number-second.ensures.output_after c.write_number-second.ensures.value in
-    let four = then-stored (field (decimal c.read_u32-uncompressed.result)) three c.write_number-third.ensures.output_after c.write_number-third.ensures.value in
-    let five = then-stored (field (hex_pairs (part p (a.at + 28) c.read_u32-size.result))) four c.write_hex-end.ensures.output_after c.write_hex-end.ensures.value in
-    let said = is-line p a.at _ _ _ _ c.read_u32-field.ensures c.read_u32-count.ensures c.read_u32-uncompressed.ensures c.read_u32-size.ensures in
+    let two = then-stored (field (decimal c.header_field-field.result)) one c.write_number-first.ensures.output_after c.write_number-first.ensures.value in
+    let three = then-stored (field (decimal c.content_count-count.result)) two c.write_number-second.ensures.output_after c.write_number-second.ensures.value in
+    let four = then-stored (field (decimal c.uncompressed_size-uncompressed.result)) three c.write_number-third.ensures.output_after c.write_number-third.ensures.value in
+    let five = then-stored (field (hex_pairs (part p (a.section.at + 28) c.stored_size-size.result))) four c.write_hex-end.ensures.output_after c.write_hex-end.ensures.value in
+    let said = is-line p a.section.at _ _ _ _ c.header_field-field.ensures c.content_count-count.ensures c.uncompressed_size-uncompressed.ensures c.stored_size-size.ensures in
     let all = as-line said (then-stored end five c.write_bytes-2.ensures refl) in
     record { value = all.ends; output_after = all.is }

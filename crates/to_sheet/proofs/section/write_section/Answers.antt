@@ -16,15 +16,9 @@ use Rattle.to_sheet.proofs.section.write_section.Goals as goal
 
 -- ---- contents
 
-pub write_contents-requires : goal.write_contents-requires
-unfolding parse_section section_records
-write_contents-requires c =
-    let is = c.in-SourceContents.is in
-    record {
-      at_value = rw is at c.requires.at_value;
-      at_bound = omega (arith, c.requires.at_in_bounds, c.requires.payload_len_bound);
-      at_bound_2 = rw is at c.requires.at_bound;
-    }
+pub write_contents-requires-clause-len_bound : goal.write_contents-requires-clause-len_bound
+unfolding section_records
+write_contents-requires-clause-len_bound c = rw c.in-SourceContents.is at c.requires
 
 pub returns-in-SourceContents : goal.returns-in-SourceContents
 unfolding section_records
@@ -39,25 +33,25 @@ names-read p at count e = rw e refl
 pub write_entries-requires : goal.write_entries-requires
 unfolding parse_section ascii
 write_entries-requires c =
-    let p = c.args.payload.now in
-    let at = c.args.at in
-    let found = is-good _ (rw c.in-SourceNames.is at c.requires.at_value) in
+    let p = c.args.section.payload.now in
+    let at = c.args.section.at in
+    let found = is-good _ (rw c.in-SourceNames.is at c.args.section.good) in
     let within = (names-walk p at (u32_at p at) found.0 found.1).1 in
-    let room = rw c.in-SourceNames.is at c.requires.at_bound in
-    let long = length-append (ascii "names\n") (entry_lines p (name_at p) c.read_u32-count.result (at + 18)) in
+    let room = rw c.in-SourceNames.is at c.requires in
+    let long = length-append (ascii "names\n") (entry_lines p (name_at p) c.name_count-count.result (at + 18)) in
     record {
-      start_bound = rw c.read_u32-count.ensures (omega (arith, within, c.requires.at_in_bounds, c.requires.payload_len_bound));
-      start_bound_2 = omega (arith, room, ap length (names-read p at _ c.read_u32-count.ensures), long);
+      start_bound = rw c.name_count-count.ensures (omega (arith, within, c.args.section.within, c.args.section.limited));
+      start_bound_2 = omega (arith, room, ap length (names-read p at _ c.name_count-count.ensures), long);
     }
 
 pub returns-in-SourceNames : goal.returns-in-SourceNames
 unfolding ascii
 returns-in-SourceNames c =
     let a = c.args in
-    let p = a.payload.now in
+    let p = a.section.payload.now in
     let one : Stored a.output.now a.to (ascii "names\n") _ (a.to + 6) = first-stored c.write_bytes.ensures refl in
     let w = c.write_entries.ensures in
-    let all = as-line (names-read p a.at _ c.read_u32-count.ensures) (then-stored (entry_lines p (name_at p) c.read_u32-count.result (a.at + 18)) one w.output_after w.value) in
+    let all = as-line (names-read p a.section.at _ c.name_count-count.ensures) (then-stored (entry_lines p (name_at p) c.name_count-count.result (a.section.at + 18)) one w.output_after w.value) in
     rw c.in-SourceNames.is (record { value = all.ends; output_after = all.is })
 
 -- ---- arguments, with their count that was read
@@ -69,26 +63,26 @@ arguments-read p at count e = rw e refl
 pub write_pairs-requires : goal.write_pairs-requires
 unfolding parse_section ascii
 write_pairs-requires c =
-    let p = c.args.payload.now in
-    let at = c.args.at in
-    let found = is-good _ (rw c.in-Arguments.is at c.requires.at_value) in
+    let p = c.args.section.payload.now in
+    let at = c.args.section.at in
+    let found = is-good _ (rw c.in-Arguments.is at c.args.section.good) in
     let within = (arguments-walk p at (u32_at p at) found.0 found.1).1 in
-    let room = rw c.in-Arguments.is at c.requires.at_bound in
-    let long = length-append (ascii "arguments\n") (pair_lines p c.read_u32-count-in-Arguments.result (at + 20)) in
+    let room = rw c.in-Arguments.is at c.requires in
+    let long = length-append (ascii "arguments\n") (pair_lines p c.pair_count-count.result (at + 20)) in
     record {
-      start_le_limit = omega (arith, within, pairs-forward p (u32_at p (at + 16)) (at + 20), c.requires.at_in_bounds, c.requires.payload_len_bound);
-      payload_len_bound = c.requires.payload_len_bound;
-      start_bound = omega (arith, room, ap length (arguments-read p at _ c.read_u32-count-in-Arguments.ensures), long);
+      start_le_limit = omega (arith, within, pairs-forward p (u32_at p (at + 16)) (at + 20), c.args.section.within, c.args.section.limited);
+      payload_len_bound = c.args.section.limited;
+      start_bound = omega (arith, room, ap length (arguments-read p at _ c.pair_count-count.ensures), long);
     }
 
 pub returns-in-Arguments : goal.returns-in-Arguments
 unfolding ascii
 returns-in-Arguments c =
     let a = c.args in
-    let p = a.payload.now in
+    let p = a.section.payload.now in
     let one : Stored a.output.now a.to (ascii "arguments\n") _ (a.to + 10) = first-stored c.write_bytes-in-Arguments.ensures refl in
     let w = c.write_pairs.ensures in
-    let all = as-line (arguments-read p a.at _ c.read_u32-count-in-Arguments.ensures) (then-stored (pair_lines p c.read_u32-count-in-Arguments.result (a.at + 20)) one w.output_after w.value) in
+    let all = as-line (arguments-read p a.section.at _ c.pair_count-count.ensures) (then-stored (pair_lines p c.pair_count-count.result (a.section.at + 20)) one w.output_after w.value) in
     rw c.in-Arguments.is (record { value = all.ends; output_after = all.is })
 
 -- ---- a section of an unknown kind
@@ -97,8 +91,8 @@ unknown-lines : (p : List ℕ) (kind at : ℕ) → flat_map line (section_record
 unfolding section_records flat_map
 unknown-lines p kind at = append-nil (line (unknown_at p kind at))
 
-pub write_unknown-requires-clause-at_bound : goal.write_unknown-requires-clause-at_bound
-write_unknown-requires-clause-at_bound c = rw (← unknown-lines c.args.payload.now _ c.args.at, ← c.in-Unknown.is) c.requires.at_bound
+pub write_unknown-requires : goal.write_unknown-requires
+write_unknown-requires c = rw (← unknown-lines c.args.section.payload.now _ c.args.section.at, ← c.in-Unknown.is) c.requires
 
 pub returns-in-Unknown : goal.returns-in-Unknown
-returns-in-Unknown c = rw (c.in-Unknown.is, unknown-lines c.args.payload.now _ c.args.at) c.write_unknown.ensures
+returns-in-Unknown c = rw (c.in-Unknown.is, unknown-lines c.args.section.payload.now _ c.args.section.at) c.write_unknown.ensures

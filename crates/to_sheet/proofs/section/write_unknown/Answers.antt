@@ -23,21 +23,21 @@ unfolding ascii
 long p kind at = ap length (is-line p kind at) ∙ simp length-append
 
 pub overflow_cast-next : goal.overflow_cast-next
-overflow_cast-next c = omega (arith, c.requires.at_bound, long c.args.payload.now c.args.kind c.args.at, c.write_number-next.ensures.value)
+overflow_cast-next c = omega (arith, c.requires, long c.args.section.payload.now c.args.kind c.args.section.at, c.write_number-next.ensures.value)
 
 pub overflow_add-result : goal.overflow_add-result
 overflow_add-result c =
     let hex = rw c.body_size-bytes.ensures at c.write_hex-end.ensures in
-    omega (arith, c.requires.at_bound, long c.args.payload.now c.args.kind c.args.at, c.write_number-next.ensures.value, hex.value)
+    omega (arith, c.requires, long c.args.section.payload.now c.args.kind c.args.section.at, c.write_number-next.ensures.value, hex.value)
 
 pub returns : goal.returns
 unfolding ascii
 returns c =
     let a = c.args in
-    let p = a.payload.now in
+    let p = a.section.payload.now in
     let hex = rw c.body_size-bytes.ensures at c.write_hex-end.ensures in
     let one : Stored a.output.now a.to (ascii "unknown") _ (a.to + 7) = first-stored c.write_bytes.ensures refl in
     let two = then-stored (field (decimal a.kind)) one c.write_number-next.ensures.output_after c.write_number-next.ensures.value in
-    let three = then-stored (field (hex_pairs (part p (a.at + 8) (u32_at p a.at - 8)))) two hex.output_after hex.value in
-    let all = as-line (is-line p a.kind a.at) (then-stored end three c.write_bytes-2.ensures refl) in
+    let three = then-stored (field (hex_pairs (part p (a.section.at + 8) (u32_at p a.section.at - 8)))) two hex.output_after hex.value in
+    let all = as-line (is-line p a.kind a.section.at) (then-stored end three c.write_bytes-2.ensures refl) in
     record { value = all.ends; output_after = all.is }

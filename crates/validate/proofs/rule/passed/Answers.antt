@@ -18,13 +18,13 @@ first_three s a b c (suc (suc (suc i))) h = absurd (omega arith)
 pub returns-then-text-lt-SHORTEST-clause-text_value : goal.returns-then-text-lt-SHORTEST-clause-text_value
 returns-then-text-lt-SHORTEST-clause-text_value c = after-ascii c.args.text.now c.args.at (omega arith) c.requires.by_index
 
-pub right_end-requires-clause-by_index : goal.right_end-requires-clause-by_index
-right_end-requires-clause-by_index c = ascii-right c.args.text.now c.args.at c.requires.by_index
+pub invariant_of-carried_on : goal.invariant_of-carried_on
+invariant_of-carried_on c = record { in_text = omega arith; each = ascii-right c.args.text.now c.args.at c.requires.by_index }
 
 pub returns-then-has_wrong-clause-text_value : goal.returns-then-has_wrong-clause-text_value
 returns-then-has_wrong-clause-text_value c = after-ascii c.args.text.now c.args.at (omega arith) c.requires.by_index
 
-pub right_end-requires-2-clause-by_index : goal.right_end-requires-2-clause-by_index
-right_end-requires-2-clause-by_index c =
+pub invariant_of-carried_on-2 : goal.invariant_of-carried_on-2
+invariant_of-carried_on-2 c =
     let no = c.has_wrong.ensures c.if-has_wrong.false in
-    first_three c.args.text.now (no 0 (omega arith)) (no 1 (omega arith)) (no 2 (omega arith))
+    record { in_text = omega arith; each = first_three c.args.text.now (no 0 (omega arith)) (no 1 (omega arith)) (no 2 (omega arith)) }

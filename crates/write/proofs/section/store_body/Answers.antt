@@ -1,5 +1,5 @@
 -- `store_body` meets its contract: by the tag of the section, its row's bytes or its entries are what it stores.
-use Rattle.std.proofs.Common.{refl, ap, length, arith}
+use Rattle.std.proofs.Common.{refl, sym, ap, ◌∙◌, length, arith}
 use Rattle.table.proofs.Rows.{length-rows_of}
 use Rattle.write.proofs.SectionParts.{fits, own, run, onward}
 use Rattle.write.proofs.section.store_body.Goals as goal
@@ -37,22 +37,22 @@ returns-in-None c =
 
 pub write_run-after-requires : goal.write_run-after-requires
 write_run-after-requires c =
-    let r = run c.requires c.entry_tag.ensures c.in_default.not-None in
+    let r = run c.requires (sym c.in-Some.is ∙ c.entry_tag.ensures) in
     record { first_in_bounds = omega (arith, c.requires.writable.0); rows_bound = omega (arith, fits c.requires, ap length r.stored) }
 
-pub overflow_cast-result-in_default-2 : goal.overflow_cast-result-in_default-2
-overflow_cast-result-in_default-2 c =
-    let r = run c.requires c.entry_tag.ensures c.in_default.not-None in
+pub overflow_cast-result-in-Some-2 : goal.overflow_cast-result-in-Some-2
+overflow_cast-result-in-Some-2 c =
+    let r = run c.requires (sym c.in-Some.is ∙ c.entry_tag.ensures) in
     omega (arith, fits c.requires, ap length r.stored)
 
-pub overflow_cast-result-in_default-3 : goal.overflow_cast-result-in_default-3
-overflow_cast-result-in_default-3 c =
-    let r = run c.requires c.entry_tag.ensures c.in_default.not-None in
+pub overflow_cast-result-in-Some-3 : goal.overflow_cast-result-in-Some-3
+overflow_cast-result-in-Some-3 c =
+    let r = run c.requires (sym c.in-Some.is ∙ c.entry_tag.ensures) in
     omega (arith, fits c.requires, ap length r.stored)
 
-pub returns-in_default : goal.returns-in_default
-returns-in_default c =
-    let r = run c.requires c.entry_tag.ensures c.in_default.not-None in
+pub returns-in-Some : goal.returns-in-Some
+returns-in-Some c =
+    let r = run c.requires (sym c.in-Some.is ∙ c.entry_tag.ensures) in
     record {
       start = refl;
       end = omega (arith, ap length r.stored);

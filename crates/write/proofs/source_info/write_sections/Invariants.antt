@@ -5,7 +5,7 @@ use Rattle.write.proofs.Turns.{Turn}
 use Rattle.write.proofs.source_info.write_sections.Given as goal
 
 abbrev pub invariant-loop-position : goal.invariant-loop-position
-invariant-loop-position l = Turn l.source.payload.now l.source.edit.now (rows l.source) l.fn.output l.position l.sections l.output
+invariant-loop-position l = Turn l.source.sides.payload.now l.source.sides.edit.now (rows l.source) l.fn.output l.position l.sections l.output
 
 abbrev pub decreases-loop-position : goal.decreases-loop-position
 decreases-loop-position l = length (rows l.source) - l.position.index

@@ -13,11 +13,11 @@ pub overflow_cast-result : goal.overflow_cast-result
 overflow_cast-result c =
     let is = ap (λ (r : Record). r.tag) c.self.view_is ∙ c.requires in
     let value = c.unwrap_or.ensures ∙ ap (λ (o : Option ℕ). unwrap_or o 0) (c.read_number.ensures ∙ ap number_told c.field.ensures) ∙
-    number-read c.self.inside.tag (fields_of c.self.inside.line.now) c.self.invariant.0 0 (rw is (omega arith)) in
-    omega (arith, value, kind_fits (said_by c.self.inside.tag (fields_of c.self.inside.line.now)) is c.self.invariant.1)
+    number-read c.self.inside.tag (fields_of c.self.inside.line.line.now) c.self.invariant.0 0 (rw is (omega arith)) in
+    omega (arith, value, kind_fits (said_by c.self.inside.tag (fields_of c.self.inside.line.line.now)) is c.self.invariant.1)
 
 pub returns : goal.returns
 returns c =
     let is = ap (λ (r : Record). r.tag) c.self.view_is ∙ c.requires in
     c.unwrap_or.ensures ∙ ap (λ (o : Option ℕ). unwrap_or o 0) (c.read_number.ensures ∙ ap number_told c.field.ensures) ∙
-    number-read c.self.inside.tag (fields_of c.self.inside.line.now) c.self.invariant.0 0 (rw is (omega arith)) ∙ ap (number 0) c.self.view_is
+    number-read c.self.inside.tag (fields_of c.self.inside.line.line.now) c.self.invariant.0 0 (rw is (omega arith)) ∙ ap (number 0) c.self.view_is

@@ -1,22 +1,45 @@
--- `next_of` meets its contract: at the sheet's end no record is left, and else the next one has the tag or not.
-use Rattle.std.proofs.Common.{refl, sym, ap, ◌∙◌}
+-- `next_of` meets its contract: no record is left, or the one ahead has the tag or not.
+use Rattle.std.proofs.Common.{◌≡◌, [], ◌∷◌, List, true, false, rules, refl, sym, ap, ◌∙◌, length, arith}
+use Rattle.std.specs.Prelude.{Option, Some, None, MatchOption}
 use Rattle.table.specs.Tags.{same_tag}
 use Rattle.table.specs.declared.tag.Tag.{Tag}
-use Rattle.table.proofs.Tags.{tag_same}
-use Rattle.from_sheet.proofs.RecordsFrom.{records-end}
+use Rattle.table.proofs.Tags.{tag_same, same_tags}
+use Rattle.format.proofs.Records.{some_same}
+use Rattle.format.specs.Records.{Record}
+use Rattle.from_sheet.specs.Records.{ahead_of, records_from}
+use Rattle.from_sheet.specs.Run.{run}
 use Rattle.from_sheet.proofs.RunLaws.{run_none, run-stops}
 use Rattle.from_sheet.proofs.records.Records.next_of.Goals as goal
 
-pub returns-then-self : goal.returns-then-self
-returns-then-self c =
-    let none = sym c.self.view_is ∙ records-end c.self.inside.sheet.now c.self.inside.at c.if-self.true in
-    (rw none (run_none c.args.tag).0, refl)
+-- the next one is the one ahead
+first :
+    (t : Tag) (ahead : Record) (rs old new : List Record) (next : Option Record) →
+    old ≡ ahead ∷ rs →
+    ahead.tag ≡ t →
+    MatchOption next ((old ≡ []) × (new ≡ [])) (λ r. old ≡ r ∷ new) →
+    MatchOption next ((run (Some t) old ≡ []) × (new ≡ old)) (λ r. (r.tag ≡ t) × (old ≡ r ∷ new))
+first t ahead rs old new None is own h = absurd (omega (arith, ap length is, ap length h.0))
+first t ahead rs old new (Some r) is own h =
+    let same : r ∷ new ≡ ahead ∷ rs = sym h ∙ is in
+    let one : r ≡ ahead = cc in
+    (ap (λ (r : Record). r.tag) one ∙ own, h)
 
-pub returns-then-not-same : goal.returns-then-not-same
-returns-then-not-same c =
-    let other = ap (λ (t : Tag). same_tag t c.args.tag) (sym c.tag.ensures) ∙ sym c.if-not-same.ensures in
-    (rw (← c.self.view_is, c.record_at-record.ensures.records) (run-stops c.args.tag _ _ other).0, refl)
+pub returns-in_err-as_ref : goal.returns-in_err-as_ref
+returns-in_err-as_ref c =
+    let none : c.args.self.now ≡ [] = sym c.self.view_is ∙ sym (ap (λ (r : Option Record). ahead_of r (records_from c.self.inside.sheet.now c.self.inside.at)) c.in_err-as_ref.ensures.value) in
+    rw c.from_residual.ensures (rw none (run_none (Some c.args.tag)).0, refl)
+
+pub returns-then-ne : goal.returns-then-ne
+returns-then-ne c =
+    let rest = records_from c.self.inside.sheet.now c.self.inside.at in
+    let is = sym c.self.view_is ∙ sym (ap (λ (r : Option Record). ahead_of r rest) c.in_ok-as_ref.ensures.value) in
+    let other : same_tag (Some c.tag.result) (Some c.args.tag) ≡ false = search (rules, same_tags) in
+    (rw is (run-stops (Some c.args.tag) _ rest (ap (λ (t : Tag). same_tag (Some t) (Some c.args.tag)) (sym c.tag.ensures) ∙ other)).0, refl)
 
 pub returns : goal.returns
 returns c =
-    (tag_same _ _ (ap (λ (t : Tag). same_tag t c.args.tag) (sym c.tag.ensures) ∙ sym c.if-not-same.ensures), sym c.self.view_is ∙ c.record_at-record.ensures.records)
+    let rest = records_from c.self.inside.sheet.now c.self.inside.at in
+    let is = sym c.self.view_is ∙ sym (ap (λ (r : Option Record). ahead_of r rest) c.in_ok-as_ref.ensures.value) in
+    let same : same_tag (Some c.tag.result) (Some c.args.tag) ≡ true = search (rules, same_tags) in
+    let own = sym c.tag.ensures ∙ some_same (tag_same _ _ same) in
+    first c.args.tag _ rest c.args.self.now c.next.new.self c.next.result is own c.next.ensures.steps
