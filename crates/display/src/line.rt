@@ -1,4 +1,5 @@
-// The lines of sections, stored at a place of the output. Each function answers the place after what it stores.
+// The lines of sections, stored at a place of the output. Each function answers the place after what it stores. The output and
+// the place are passed apart: one value of both would have to say what was stored before. The place has a bound, so that sums fit.
 ghost use Rattle.std.specs.Prelude.{◌≡◌, ◌+◌, ◌^◌, ◌≤◌, length};
 ghost use Rattle.std.proofs.lemmas.List.Edits.{sets};
 ghost use Rattle.format.specs.Display.{line, unknown_line};

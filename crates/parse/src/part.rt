@@ -2,7 +2,7 @@
 ghost use Rattle.std.specs.Prelude.{◌+◌, ◌≤◌, length};
 ghost use Rattle.format.specs.Encoding.{limit};
 
-// A payload, and an end in it up to which entries or pairs go.
+// A payload, and an end in it up to which entries or pairs go. A place in it is passed beside it, since it is another at each step.
 #[derive(Clone, Copy)]
 pub struct Part<'a> {
     pub payload: &'a [u8],
