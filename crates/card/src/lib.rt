@@ -12,7 +12,7 @@ mod source_info;
 ghost use Rattle.std.specs.Prelude.{◌≡◌, length};
 ghost use Rattle.format.specs.Card.{card_answer, card_output};
 
-use crate::source_info::Card;
+pub use crate::source_info::Card;
 use layout::Answer;
 
 // Writes the card of a payload to a lent output, whole, or refuses it and leaves the output as it was.

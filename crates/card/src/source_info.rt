@@ -16,8 +16,8 @@ impl Page for Card {
     // Of packed contents it says that no bytes are there, and of an unknown kind nothing.
     fn summarize(section: CheckedSection) -> Option<Summary> {
         match summarize(section) {
-            Summary::Zlib(count, _) => Some(Summary::Zlib(count, 0)),
-            Summary::Unknown(_, _) => None,
+            Summary::Zlib { count, .. } => Some(Summary::Zlib { count, bytes: 0 }),
+            Summary::Unknown { .. } => None,
             summary => Some(summary),
         }
     }

@@ -1,6 +1,6 @@
 -- What is stored piece by piece is the line.
 -- Assumes nothing.
-use Prim.Native.Nat.{ℕ, suc, ◌+◌, ◌≤◌}
+use Prim.Native.Nat.{ℕ, suc, ◌+◌}
 use mathlib.Core.List.{List, [], ◌∷◌, ◌++◌, append_assoc, append-nil, map}
 use mathlib.Core.Path.{◌≡◌, refl, sym, ap, ◌∙◌}
 use native.Mathlib.Nat.{add-zero}
@@ -16,10 +16,6 @@ use Rattle.section_reader.specs.Sections.{Found, sections}
 use Rattle.display.proofs.Numbered.{items}
 use Rattle.display.specs.Summary.{records_line, summary_line, page_of, page_said}
 use Rattle.display.specs.declared.summary.Summary.{Summary}
-
--- what a function that stores bytes at a place answers and leaves, where they are at most as many as a line has
-abbrev pub Stored : ℕ → List ℕ → ℕ → List ℕ → List ℕ → Type 0
-Stored at before next after bytes = (next ≡ at + length bytes) × ((next ≤ at + 128) × (after ≡ sets before at bytes))
 
 -- ---- a line with a number of records
 

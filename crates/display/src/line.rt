@@ -1,5 +1,6 @@
 // The lines of sections, stored at a place of the output. Each function answers the place after what it stores. The output and
-// the place are passed apart: one value of both would have to say what was stored before. The place has a bound, so that sums fit.
+// the place are passed apart: while a job measures, the output has no bytes and the place goes on all the same, where a cursor
+// stops at the output's end. The place has a bound, so that sums fit.
 ghost use Rattle.std.specs.Prelude.{◌≡◌, ◌+◌, ◌^◌, ◌≤◌, length};
 ghost use Rattle.std.proofs.lemmas.List.Edits.{sets};
 ghost use Rattle.format.specs.Display.{line, unknown_line};
@@ -61,7 +62,7 @@ pub fn write_line(output: &mut [u8], at: usize, place: u32, summary: Summary) ->
             count,
             b" uncompressed file(s)\n",
         ),
-        Summary::Zlib(count, bytes) => {
+        Summary::Zlib { count, bytes } => {
             let next = write_records(
                 output,
                 at,
@@ -88,6 +89,6 @@ pub fn write_line(output: &mut [u8], at: usize, place: u32, summary: Summary) ->
             count,
             b" pair(s)\n",
         ),
-        Summary::Unknown(kind, bytes) => write_unknown(output, at, place, kind, bytes),
+        Summary::Unknown { kind, bytes } => write_unknown(output, at, place, kind, bytes),
     }
 }

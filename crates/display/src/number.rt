@@ -4,7 +4,8 @@ ghost use Rattle.std.proofs.lemmas.List.Edits.{sets};
 ghost use Rattle.format.specs.Display.{decimal, hex};
 ghost use Rattle.display.specs.Digits.{digit_in};
 
-// A number in decimal. Answers its length, which `write!` to lent bytes does not tell where they end before it.
+// A number in decimal, as far as the output goes. Answers its whole length. `write!` does not: to bytes that end before the
+// number does it answers an error, and no length, and a job measures by an output of no bytes.
 #[tactic(auto, using(crate::proofs::Decimals::decimals))]
 pub fn write_decimal(output: &mut [u8], at: usize, n: u32) -> usize
     ensures value { result ≡ length (decimal n) }

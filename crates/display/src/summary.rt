@@ -1,39 +1,35 @@
 // What a section's line says of it.
 ghost use Rattle.std.specs.Prelude.{◌≡◌};
-ghost use Rattle.display.specs.Summary.{summary_at, contents_summary};
+ghost use Rattle.display.specs.Summary.{summary_at};
 
-use layout::{SourceCompression, SourceInfoSectionType};
-use section_reader::CheckedSection;
+use section_reader::{Body, CheckedSection};
 
-// How many records the section has, how many bytes it stores, its kind.
+// How many records the section has, and of packed contents how many bytes they store; of a section of an unknown kind, its
+// kind and the bytes of its body.
 #[derive(Clone, Copy)]
 pub enum Summary {
     Uncompressed(u32),
-    Zlib(u32, u32),
+    Zlib { count: u32, bytes: u32 },
     SourceNames(u32),
     Arguments(u32),
-    Unknown(u16, u32),
+    Unknown { kind: u16, bytes: u32 },
 }
 
 // What the line of a section says.
 pub fn summarize(section: CheckedSection) -> Summary
     ensures { result ≡ summary_at section.entry.payload.now section.entry.kind section.entry.at }
 {
-    match section.kind {
-        SourceInfoSectionType::SourceContents => summarize_contents(section),
-        SourceInfoSectionType::SourceNames => Summary::SourceNames(section.name_count()),
-        SourceInfoSectionType::Arguments => Summary::Arguments(section.pair_count()),
-        SourceInfoSectionType::Unknown(kind) => Summary::Unknown(kind, section.body_size()),
-    }
-}
-
-// What the line of contents says.
-fn summarize_contents(section: CheckedSection) -> Summary
-    ensures { result ≡ contents_summary section.entry.payload.now section.entry.at }
-{
-    let count = section.content_count();
-    match section.compression() {
-        SourceCompression::None => Summary::Uncompressed(count),
-        SourceCompression::Zlib => Summary::Zlib(count, section.stored_size()),
+    match section.body() {
+        Body::Contents(_) => Summary::Uncompressed(section.content_count()),
+        Body::Packed => Summary::Zlib {
+            count: section.content_count(),
+            bytes: section.stored_size(),
+        },
+        Body::Names(_) => Summary::SourceNames(section.name_count()),
+        Body::Arguments(_) => Summary::Arguments(section.pair_count()),
+        Body::Unknown(kind) => Summary::Unknown {
+            kind,
+            bytes: section.body_size(),
+        },
     }
 }

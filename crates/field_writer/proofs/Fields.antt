@@ -1,16 +1,17 @@
--- What the field writers use: two bytes from one number, digits below 128, and a run of bytes that stand for themselves.
+-- What the field writers use: the letter of a byte that is escaped, and a run of bytes that stand for themselves.
 -- Assumes nothing.
-use Prim.Native.Nat.{ℕ, ◌+◌, ◌-◌, ◌≤◌, ◌<◌}
+use Prim.Native.Nat.{ℕ, ◌+◌, ◌≤◌, ◌<◌}
 use mathlib.Core.Bool.{Bool, true, false, cond, ◌||◌}
 use mathlib.Core.List.{List, [], ◌∷◌, ◌++◌, flat_map}
-use mathlib.Core.Path.{◌≡◌, refl, ap, ap₂, ◌∙◌}
+use mathlib.Core.Path.{◌≡◌, refl, ap₂}
 use native.Mathlib.Numerals.{add-one}
 use native.Mathlib.Omega.{arith}
 use borrow.Author.Tests.{eqb-true}
 use lib.Dec.{eqb}
-use lib.ListN.{length, get_or, take, drop, length-drop, drop_of_length-le}
-use lib.Seq.{drop-cons, take_all}
+use lib.ListN.{length, get_or, take, drop, drop_of_length-le}
+use lib.Seq.{drop-cons}
 use Rattle.find.specs.Find.{until, is_any}
+use Rattle.find.proofs.Rest.{from, from-is}
 use Rattle.find.proofs.FindLaws.{until-found, until-more, until-least, until-step}
 use Rattle.std.specs.Prelude.{Some, None}
 use Rattle.sheet.specs.Fields.{tab, newline, backslash, hex_pair, hex_pairs, escaped, escape}
@@ -34,14 +35,18 @@ some-letter b second h = go (eqb b tab) (eqb b newline) (eqb b backslash) refl r
     go false false true e f g h = written backslash backslash (eqb-true b backslash g) refl h
     go false false false e f g h = cc
 
+-- the bytes that have one
+abbrev pub sought : List ℕ
+sought = backslash ∷ tab ∷ newline ∷ []
+
 -- any other stands for itself
-pub no-letter : (b : ℕ) → letter_of b ≡ None → is_any backslash tab newline b ≡ false
+pub no-letter : (b : ℕ) → letter_of b ≡ None → is_any sought b ≡ false
 no-letter b h = go (eqb b tab) (eqb b newline) (eqb b backslash) h
   where
     go :
         (x y z : Bool) →
         cond x (Some 116) (cond y (Some 110) (cond z (Some backslash) None)) ≡ None →
-        (z || x || y) ≡ false
+        (z || (x || (y || false))) ≡ false
     go true y z h = cc
     go false true z h = cc
     go false false true h = cc
@@ -50,32 +55,32 @@ no-letter b h = go (eqb b tab) (eqb b newline) (eqb b backslash) h
 -- ---- runs
 
 -- a byte that is not escaped
-itself : (b : ℕ) → is_any backslash tab newline b ≡ false → escaped b ≡ b ∷ []
+itself : (b : ℕ) → is_any sought b ≡ false → escaped b ≡ b ∷ []
 itself b h = go (eqb b backslash) (eqb b tab) (eqb b newline) h
   where
-    go : (x y z : Bool) → (x || y || z) ≡ false → cond x (backslash ∷ 92 ∷ []) (cond y (backslash ∷ 116 ∷ []) (cond z (backslash ∷ 110 ∷ []) (b ∷ []))) ≡ b ∷ []
+    go : (x y z : Bool) → (x || (y || (z || false))) ≡ false → cond x (backslash ∷ 92 ∷ []) (cond y (backslash ∷ 116 ∷ []) (cond z (backslash ∷ 110 ∷ []) (b ∷ []))) ≡ b ∷ []
     go true y z e = let z : ◌≡◌ {A = ℕ} 0 1 = cc in absurd (omega arith)
     go false true z e = let z : ◌≡◌ {A = ℕ} 0 1 = cc in absurd (omega arith)
     go false false true e = let z : ◌≡◌ {A = ℕ} 0 1 = cc in absurd (omega arith)
     go false false false e = refl
 
 -- bytes up to one that is escaped stand for themselves
-pub escape-run : (s : List ℕ) → (let n : ℕ = until (is_any backslash tab newline) s in escape s ≡ take n s ++ escape (drop n s))
+pub escape-run : (s : List ℕ) → (let n : ℕ = until (is_any sought) s in escape s ≡ take n s ++ escape (drop n s))
 unfolding escape flat_map
 escape-run [] = unfold until in refl
-escape-run (b ∷ s) = go (is_any backslash tab newline b) refl (escape-run s)
+escape-run (b ∷ s) = go (is_any sought b) refl (escape-run s)
   where
     n : List ℕ → ℕ
-    n t = until (is_any backslash tab newline) t
+    n t = until (is_any sought) t
 
     go :
         (is : Bool) →
-        is_any backslash tab newline b ≡ is →
+        is_any sought b ≡ is →
         escape s ≡ take (n s) s ++ escape (drop (n s) s) →
         escape (b ∷ s) ≡ take (n (b ∷ s)) (b ∷ s) ++ escape (drop (n (b ∷ s)) (b ∷ s))
-    go true e h = rw (until-found (is_any backslash tab newline) b s e)
+    go true e h = rw (until-found (is_any sought) b s e)
     go false e h =
-        rw (until-more (is_any backslash tab newline) b s e)
+        rw (until-more (is_any sought) b s e)
         (ap₂ (λ (x y : List ℕ). x ++ y) (itself b e) h)
 
 -- ---- from a place on
@@ -90,16 +95,6 @@ pairs_end_lem s i h = rw (drop_of_length-le s h)
 
 -- ---- the rest of a text
 
--- the bytes from an index on, as a slice has them
-abbrev pub from : ℕ → List ℕ → List ℕ
-from n s = take (length s - n) (drop n s)
-
-from-is : (n : ℕ) (s : List ℕ) → from n s ≡ drop n s
-from-is n s = take_all (length s - n) (drop n s) (omega (arith, length-drop n s))
-
-pub length-from : (n : ℕ) (s : List ℕ) → length (from n s) ≡ length s - n
-length-from n s = ap length (from-is n s) ∙ length-drop n s
-
 pub escape-next : (s : List ℕ) → 1 ≤ length s → escape s ≡ escaped (get_or s 0 0) ++ escape (from 1 s)
 unfolding escape flat_map
 escape-next [] h = absurd (omega arith)
@@ -112,12 +107,12 @@ escape_end (b ∷ s) h = absurd (omega arith)
 
 -- the run that is found where the first byte stands for itself
 abbrev pub run_of : List ℕ → ℕ
-run_of s = until (is_any backslash tab newline) s
+run_of s = until (is_any sought) s
 
 -- it has a byte, and lies within the text
 pub run-within : (s : List ℕ) → 1 ≤ length s → letter_of (get_or s 0 0) ≡ None → (1 ≤ run_of s) × (run_of s ≤ length s)
 run-within s h none =
-    let p : ℕ → Bool = is_any backslash tab newline in
+    let p : ℕ → Bool = is_any sought in
     let least = until-step p s 0 h (no-letter (get_or s 0 0) none) in
     (omega arith, until-least p s)
 

@@ -1,17 +1,15 @@
 // Bytes as pairs of digits.
 ghost use Rattle.std.specs.Prelude.{◌≡◌, ◌+◌, ◌*◌, ◌^◌, ◌≤◌, length};
 ghost use Rattle.std.proofs.lemmas.List.Edits.{sets};
-ghost use Rattle.wire.specs.Number.{bytes_of};
 ghost use Rattle.sheet.specs.Fields.{hex_pair, hex_pairs};
 
 use display::hex_digit;
 
-// The two digits of a byte, as a number that is stored with the first one first.
-#[tactic(auto, unfolding(wire::specs::Number::bytes_of))]
-fn pair(byte: u8) -> u16
-    ensures { bytes_of 2 result ≡ hex_pair byte }
+// The two digits of a byte.
+fn pair(byte: u8) -> [u8; 2]
+    ensures { result ≡ hex_pair byte }
 {
-    u16::from_le_bytes([hex_digit::<false>(byte / 16), hex_digit::<false>(byte)])
+    [hex_digit::<false>(byte / 16), hex_digit::<false>(byte)]
 }
 
 // The pairs of all bytes. Where the output ends before them, none is made.
@@ -23,6 +21,6 @@ pub fn write_pairs(output: &mut [u8], at: usize, bytes: &[u8])
         return;
     }
     for (i, byte) in bytes.iter().enumerate() {
-        wire::write_u16(output, at + 2 * i, pair(*byte));
+        wire::write_array::<2>(output, at + 2 * i, pair(*byte));
     }
 }

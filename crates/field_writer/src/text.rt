@@ -4,11 +4,7 @@ ghost use Rattle.std.proofs.lemmas.List.Edits.{sets};
 ghost use Rattle.sheet.specs.Fields.{escape};
 ghost use Rattle.field_writer.specs.Letters.{letter_of};
 
-const TAB: u8 = b'\t';
-
-const NEWLINE: u8 = b'\n';
-
-const BACKSLASH: u8 = b'\\';
+use sheet::{BACKSLASH, NEWLINE, TAB};
 
 // What follows the backslash that a byte is written with; None where it stands for itself.
 fn letter(byte: u8) -> Option<u8>
@@ -32,11 +28,11 @@ pub fn write_escaped(output: &mut [u8], at: usize, text: &[u8]) -> usize
     let mut rest = text;
     while let [first, after @ ..] = rest {
         if let Some(second) = letter(*first) {
-            wire::write_u16(output, to, u16::from_le_bytes([BACKSLASH, second]));
+            wire::write_array::<2>(output, to, [BACKSLASH, second]);
             to += 2;
             rest = after;
         } else {
-            let run = find::find_any(rest, BACKSLASH, TAB, NEWLINE);
+            let run = find::find_any(rest, &[BACKSLASH, TAB, NEWLINE]);
             wire::write_bytes(output, to, &rest[..run]);
             to += run;
             rest = &rest[run..];

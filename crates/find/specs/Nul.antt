@@ -1,10 +1,10 @@
 -- Where a text ends on the wire: at its terminator, the first NUL.
-use Rattle.std.specs.Prelude.{ℕ, suc, Bool, true, false, cond, Option, Some, None, List, [], ◌∷◌, eqb, ltb, length}
+use Rattle.std.specs.Prelude.{ℕ, Bool, cond, Option, Some, None, List, [], ◌∷◌, ltb, length}
+use Rattle.find.specs.Find.{until, is_any}
 
 -- how many bytes stand before the first NUL; all of them where there is none
 unfoldable pub until_nul : List ℕ → ℕ
-until_nul [] = 0
-until_nul (b ∷ s) = elim (eqb b 0) [ true ↦ 0 | false ↦ suc (until_nul s) ]
+until_nul s = until (is_any (0 ∷ [])) s
 
 -- whether there is a NUL
 abbrev pub has_nul : List ℕ → Bool

@@ -16,7 +16,6 @@ pub mod Storing
 pub mod Encoding
 pub mod EncodedBytes
 pub mod Output
-pub mod MainHeader
 -- What stands at a place: from reading to bytes, and from bytes to reading
 pub mod TextsOk
 pub mod Stands

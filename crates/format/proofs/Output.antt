@@ -70,5 +70,5 @@ for-room bytes room refusal e = go (leb (length bytes) room) refl e
         leb (length bytes) room ≡ fits →
         cond fits (Ok (length bytes)) (Err (NoRoom (length bytes))) ≡ Err refusal →
         (refusal ≡ NoRoom (length bytes)) × (room < length bytes)
-    go true f g = let z : ◌≡◌ {A = ℕ} 0 1 = cc in absurd (omega arith)
+    go true f g = absurd cc
     go false f g = (cc, leb-false (length bytes) room f)

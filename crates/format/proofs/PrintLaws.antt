@@ -69,7 +69,7 @@ module _ (output : List ℕ) (whole : length output ≡ print_limit) where
       answer made (length output) ≡ Ok count →
       (count ≡ length (outcome made)) × (output_after made output ≡ outcome made ++ drop (length (outcome made)) output)
   unfolding answer output_after outcome
-  outcome-accepted (Err refusal) count e = let z : ◌≡◌ {A = ℕ} 0 1 = cc in absurd (omega arith)
+  outcome-accepted (Err refusal) count e = absurd cc
   outcome-accepted (Ok q) count e = rw whole (go (leb (length q) print_limit) (rw whole at e))
     where
       go :
@@ -78,7 +78,7 @@ module _ (output : List ℕ) (whole : length output ≡ print_limit) where
           (let said : List ℕ = cond fits q (refused_line (NoRoom (length q))) in
           (count ≡ length said) × (cond fits (q ++ drop (length q) output) output ≡ said ++ drop (length said) output))
       go true f = let size : count ≡ length q = cc in (size, refl)
-      go false f = let z : ◌≡◌ {A = ℕ} 0 1 = cc in absurd (omega arith)
+      go false f = absurd cc
 
   -- of a refused one the refusal is printed, and the output is as it was
   pub outcome-refused :
@@ -93,7 +93,7 @@ module _ (output : List ℕ) (whole : length output ≡ print_limit) where
           (fits : Bool) →
           cond fits (Ok (length q)) (Err (NoRoom (length q))) ≡ Err refusal →
           (cond fits (q ++ drop (length q) output) output ≡ output) × (cond fits q (refused_line (NoRoom (length q))) ≡ refused_line refusal)
-      go true f = let z : ◌≡◌ {A = ℕ} 0 1 = cc in absurd (omega arith)
+      go true f = absurd cc
       go false f = let same : NoRoom (length q) ≡ refusal = cc in (refl, ap refused_line same)
 
   -- so what is printed of the answer, over what the call left, is the outcome

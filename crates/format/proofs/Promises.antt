@@ -36,7 +36,7 @@ kept :
     {A : Type 0} (fits : Bool) (count : ℕ) (lacking refusal : Refusal) (new lent : A) →
     cond fits (Ok count) (Err lacking) ≡ Err refusal →
     cond fits new lent ≡ lent
-kept true count lacking refusal new lent e = let z : ◌≡◌ {A = ℕ} 0 1 = cc in absurd (omega arith)
+kept true count lacking refusal new lent e = absurd cc
 kept false count lacking refusal new lent e = refl
 
 pub refused-leaves-table : RefusedLeavesTable
@@ -58,7 +58,7 @@ stored :
     cond fits (Ok size) (Err lacking) ≡ Ok count →
     (fits ≡ true) × (size ≡ count)
 stored true size count lacking e = (refl, cc)
-stored false size count lacking e = let z : ◌≡◌ {A = ℕ} 0 1 = cc in absurd (omega arith)
+stored false size count lacking e = absurd cc
 
 pub accepted-stores-rows : AcceptedStoresRows
 unfolding read_answer rows_answer
@@ -73,7 +73,7 @@ accepted-stores-rows p table count e = go (parse p) refl e
         × (length rows ≡ count)
         × (count * width ≤ length table)
         × (read_table p table ≡ table_of rows ++ drop (count * width) table)
-    go (Err r) f g = let z : ◌≡◌ {A = ℕ} 0 1 = cc in absurd (omega arith)
+    go (Err r) f g = absurd cc
     go (Ok rows) f g =
         let (fits, size) = stored (holds (length table) rows) (length rows) count _ g in
         let room = leb-true (length rows) (length table / width) fits in
@@ -81,7 +81,7 @@ accepted-stores-rows p table count e = go (parse p) refl e
 
 pub accepted-stores-bytes : AcceptedStoresBytes
 unfolding answer
-accepted-stores-bytes (Err r) output count e = let z : ◌≡◌ {A = ℕ} 0 1 = cc in absurd (omega arith)
+accepted-stores-bytes (Err r) output count e = absurd cc
 accepted-stores-bytes (Ok bytes) output count e =
     let (fits, size) = stored (leb (length bytes) (length output)) (length bytes) count _ e in
     let enough = leb-true (length bytes) (length output) fits in
@@ -98,7 +98,7 @@ accepted-whatever-table p e =
 
 refusal-of : {A : Type 0} (c : Checked A) → is_ok c ≡ false → (r : Refusal) × (c ≡ Err r)
 refusal-of (Err r) e = (r, refl)
-refusal-of (Ok a) e = let z : ◌≡◌ {A = ℕ} 0 1 = cc in absurd (omega arith)
+refusal-of (Ok a) e = absurd cc
 
 pub refused-whatever-table : RefusedWhateverTable
 unfolding accepted read_answer rows_answer

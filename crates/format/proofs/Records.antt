@@ -3,10 +3,11 @@
 -- Assumes nothing.
 use Rattle.std.specs.Prelude.{Option, Some, None}
 use Prim.Native.Nat.{ℕ}
-use mathlib.Core.Bool.{true, false, and-eq-true_iff}
+use mathlib.Core.Bool.{true, false, true≢false, and-eq-true_iff}
 use mathlib.Core.List.{List, [], ◌∷◌, ◌++◌, map, flat_map, append-nil}
 use mathlib.Core.Path.{◌≡◌, refl, sym, ap, ap₂, ◌∙◌}
 use native.Mathlib.Omega.{arith}
+use Rattle.std.proofs.lemmas.List.{nil_from_length}
 use Rattle.std.proofs.lemmas.Option.{none-some}
 use lib.ListN.{length, get_or}
 use Rattle.table.specs.Tags.{same_tag, entry_tag, entry_after, begins_section, opens_section}
@@ -18,9 +19,6 @@ use Rattle.format.specs.Records.{Record, says, number_count, text_count, is_plac
 use Rattle.format.specs.Sections.{Name, Pair, Section, plain, packed, names, arguments, unknown}
 use Rattle.format.specs.WellFormed.{All}
 use Rattle.format.proofs.RecordsByTag.{leading-more, leading-ends}
-
-never : true ≡ false → ⊥
-never e = let z : ◌≡◌ {A = ℕ} 0 1 = cc in omega arith
 
 pub some_same : {a b : Tag} → ◌≡◌ {A = Option Tag} (Some a) (Some b) → a ≡ b
 some_same q = cc
@@ -46,11 +44,11 @@ placed previous tag.Pair h = entry refl (tag_same (entry_after previous) (Some t
 -- a record that is no section's begins none
 pub begins-none : (t : Tag) → begins_section t ≡ false → (r : Record) (rs : List Record) → begun t r rs ≡ []
 unfolding begun
-begins-none tag.PlainContents b r rs = absurd (never b)
-begins-none tag.PackedContents b r rs = absurd (never b)
-begins-none tag.Names b r rs = absurd (never b)
-begins-none tag.Arguments b r rs = absurd (never b)
-begins-none tag.Unknown b r rs = absurd (never b)
+begins-none tag.PlainContents b r rs = cc
+begins-none tag.PackedContents b r rs = cc
+begins-none tag.Names b r rs = cc
+begins-none tag.Arguments b r rs = cc
+begins-none tag.Unknown b r rs = cc
 begins-none tag.Content b r rs = refl
 begins-none tag.Name b r rs = refl
 begins-none tag.Pair b r rs = refl
@@ -58,7 +56,7 @@ begins-none tag.Pair b r rs = refl
 -- ---- the sections of the records of sections
 
 section-no-entry : (own : Tag) (t : Option Tag) → begins_section own ≡ true → opens_section t ≡ false → Some own ≡ t → ⊥
-section-no-entry own t b e q = never (sym b ∙ ap opens_section q ∙ e)
+section-no-entry own t b e q = true≢false (sym b ∙ ap opens_section q ∙ e)
 
 -- what the records of a section begin with
 first-record : (s : Section) → (r : Record) × (rs : List Record) × (records_of s ≡ r ∷ rs) × (begins_section r.tag ≡ true)
@@ -127,13 +125,9 @@ pub record Shaped (r : Record) : Type 0 where
   pub texts : length r.texts ≡ text_count r.tag
 
 -- a list of a length, by its elements
-none_of : {A : Type 0} (l : List A) → length l ≡ 0 → l ≡ []
-none_of [] e = refl
-none_of (x ∷ l) e = absurd (omega arith)
-
 one_of : {A : Type 0} (d : A) (l : List A) → length l ≡ 1 → l ≡ get_or l 0 d ∷ []
 one_of d [] e = absurd (omega arith)
-one_of d (x ∷ l) e = ap (λ (m : List _). x ∷ m) (none_of l (omega arith))
+one_of d (x ∷ l) e = ap (λ (m : List _). x ∷ m) (nil_from_length l (omega arith))
 
 two-of : {A : Type 0} (d : A) (l : List A) → length l ≡ 2 → l ≡ get_or l 0 d ∷ get_or l 1 d ∷ []
 two-of d [] e = absurd (omega arith)
@@ -174,28 +168,28 @@ module _ (r : Record) (ok : Shaped r) where
   texted t q = ok.texts ∙ ap text_count q
 
   plain_back : r.tag ≡ tag.PlainContents → says tag.PlainContents (number 0 r ∷ []) [] ≡ r
-  plain_back q = rebuilt r _ q (one_of 0 r.numbers (numbered _ q)) (none_of r.texts (texted _ q))
+  plain_back q = rebuilt r _ q (one_of 0 r.numbers (numbered _ q)) (nil_from_length r.texts (texted _ q))
 
   packed-back : r.tag ≡ tag.PackedContents → says tag.PackedContents (number 0 r ∷ number 1 r ∷ number 2 r ∷ []) (text 0 r ∷ []) ≡ r
   packed-back q = rebuilt r _ q (three-of 0 r.numbers (numbered _ q)) (one_of [] r.texts (texted _ q))
 
   names-back : r.tag ≡ tag.Names → says tag.Names [] [] ≡ r
-  names-back q = rebuilt r _ q (none_of r.numbers (numbered _ q)) (none_of r.texts (texted _ q))
+  names-back q = rebuilt r _ q (nil_from_length r.numbers (numbered _ q)) (nil_from_length r.texts (texted _ q))
 
   arguments-back : r.tag ≡ tag.Arguments → says tag.Arguments [] [] ≡ r
-  arguments-back q = rebuilt r _ q (none_of r.numbers (numbered _ q)) (none_of r.texts (texted _ q))
+  arguments-back q = rebuilt r _ q (nil_from_length r.numbers (numbered _ q)) (nil_from_length r.texts (texted _ q))
 
   unknown-back : r.tag ≡ tag.Unknown → says tag.Unknown (number 0 r ∷ []) (text 0 r ∷ []) ≡ r
   unknown-back q = rebuilt r _ q (one_of 0 r.numbers (numbered _ q)) (one_of [] r.texts (texted _ q))
 
   content-back : r.tag ≡ tag.Content → content_record (text 0 r) ≡ r
-  content-back q = rebuilt r _ q (none_of r.numbers (numbered _ q)) (one_of [] r.texts (texted _ q))
+  content-back q = rebuilt r _ q (nil_from_length r.numbers (numbered _ q)) (one_of [] r.texts (texted _ q))
 
   name_back : r.tag ≡ tag.Name → name_record (name_of r) ≡ r
   name_back q = rebuilt r _ q (one_of 0 r.numbers (numbered _ q)) (one_of [] r.texts (texted _ q))
 
   pair-back : r.tag ≡ tag.Pair → pair_record (pair_of r) ≡ r
-  pair-back q = rebuilt r _ q (none_of r.numbers (numbered _ q)) (two-of [] r.texts (texted _ q))
+  pair-back q = rebuilt r _ q (nil_from_length r.numbers (numbered _ q)) (two-of [] r.texts (texted _ q))
 
 -- a section's own record and its entries' are those that it was made from
 begun-back :
@@ -216,9 +210,9 @@ begun-back tag.Arguments r rs q b ok oks =
     ap₂ (λ (a : Record) (l : List Record). a ∷ l) (arguments-back r ok q) (append-nil _ ∙ leading-back tag.Pair pair_of pair_record pair-back rs oks)
 begun-back tag.Unknown r rs q b ok oks =
     ap₂ (λ (a : Record) (l : List Record). a ∷ l) (unknown-back r ok q) (sym (leading-no-tag (λ (r : Record). r) rs))
-begun-back tag.Content r rs q b ok oks = absurd (never (sym b))
-begun-back tag.Name r rs q b ok oks = absurd (never (sym b))
-begun-back tag.Pair r rs q b ok oks = absurd (never (sym b))
+begun-back tag.Content r rs q b ok oks = absurd cc
+begun-back tag.Name r rs q b ok oks = absurd cc
+begun-back tag.Pair r rs q b ok oks = absurd cc
 
 -- the entries that continue what stands before the records, and then the records of the sections
 continued : (previous : Option Tag) (rs : List Record) → in_order previous rs ≡ true → All Shaped rs → leading (entry_after previous) (λ (r : Record). r) rs ++ records (sections rs) ≡ rs

@@ -7,7 +7,7 @@ use mathlib.Core.Logic.{◌⊎◌, inl, inr}
 use mathlib.Core.Path.{◌≡◌, refl, sym, ap, ◌∙◌}
 use Rattle.layout.specs.Checked.{Checked}
 use Rattle.layout.specs.Refusals.{refusal_number, refusal_second}
-use Rattle.layout.specs.Spans.{Span}
+use Rattle.layout.specs.declared.span.Span.{Span}
 use Rattle.layout.specs.TextCheck.{check_text}
 use Rattle.layout.specs.declared.refusal.Refusal.{Refusal}
 use Rattle.layout.proofs.Checked.{after-fault}

@@ -4,14 +4,16 @@
 use Rattle.std.specs.Prelude.{Ok, Option, Some, None}
 use Prim.Native.Nat.{ℕ, zero, suc, ◌+◌}
 use mathlib.Core.Bool.{true, and-eq-true_iff}
-use mathlib.Core.List.{List, [], ◌∷◌, map}
+use mathlib.Core.List.{List, [], ◌∷◌}
 use mathlib.Core.Path.{◌≡◌, refl, sym, ap, ◌∙◌}
 use native.Mathlib.Omega.{arith}
 use borrow.Author.Tests.{le-leb}
 use lib.ListN.{length, get_or, set}
+use Rattle.std.proofs.lemmas.List.{map-set}
 use Rattle.wire.specs.Padding.{all_zero}
 use Rattle.layout.specs.Checked.{Checked}
-use Rattle.layout.specs.Spans.{Span, side_of, span_bytes, inside}
+use Rattle.layout.specs.Spans.{side_of, span_bytes, inside}
+use Rattle.layout.specs.declared.span.Span.{Span}
 use Rattle.table.specs.Rows.{no_row, rows_of, store_row, name_row, spans_by}
 use Rattle.table.proofs.Rows.{length-table_of, rows_of-table_of, length-store_row, rows_of-store_row}
 use Rattle.table.specs.Tags.{tag_of}
@@ -37,11 +39,6 @@ use Rattle.format.proofs.RowsSay.{Numbers}
 use Rattle.format.proofs.TextsOk.{ok-text}
 
 -- ---- a row that is set
-
-map-set : {A B : Type 0} (f : A → B) (l : List A) (i : ℕ) (a : A) → map f (set l i a) ≡ set (map f l) i (f a)
-map-set f [] i a = refl
-map-set f (x ∷ l) zero a = refl
-map-set {B = B} f (x ∷ l) (suc i) a = ap (λ (t : List B). f x ∷ t) (map-set f l i a)
 
 every_set : (P : Option Tag → Row → Type 0) (rows : List Row) (i : ℕ) (new : Row) → Every P rows → P (tag_of new.tag) new → Every P (set rows i new)
 every_set P [] i new h k = tt

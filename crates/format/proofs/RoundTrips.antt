@@ -16,7 +16,7 @@ use Rattle.table.specs.Tags.{tag_of, opens_section}
 use Rattle.table.specs.declared.row.Row.{Row}
 use Rattle.table.specs.declared.tag.Tag.{Tag}
 use Rattle.table.specs.declared.tag.Tag.TheVariants.{PlainContents, PackedContents, Names, Arguments, Unknown, Content, Name, Pair}
-use Rattle.layout.specs.Spans.{Span}
+use Rattle.layout.specs.declared.span.Span.{Span}
 use Rattle.layout.proofs.BySide.{side_of-payload}
 use Rattle.layout.proofs.Checked.{check-good, then-good, then-passes, is-good}
 use Rattle.table.proofs.Rows.{length-table_of, rows_of-table_of, rows_of-table_of-append}

@@ -9,7 +9,8 @@ use native.Mathlib.Omega.{arith}
 use borrow.Author.Tests.{leb-true, eqb-true}
 use lib.ListN.{length, length-drop}
 use lib.Seq.{length-take-le}
-use Rattle.layout.specs.Spans.{Span, side_of, span_bytes, inside}
+use Rattle.layout.specs.Spans.{side_of, span_bytes, inside}
+use Rattle.layout.specs.declared.span.Span.{Span}
 use Rattle.layout.specs.TextCheck.{check_span}
 use Rattle.layout.proofs.Checked.{check-good, then-good}
 use Rattle.table.specs.Rows.{bytes_span, text_span, value_span, spans_by}
@@ -28,30 +29,27 @@ use Rattle.format.proofs.TextsOk.{text-ok}
 abbrev pub Ruled : Option Tag → Option Tag → Row → Type 0
 Ruled previous t r = tag_rule t previous r ≡ true
 
-never : true ≡ false → ⊥
-never e = let z : ◌≡◌ {A = ℕ} 0 1 = cc in omega arith
-
 -- a row that begins no section is an entry, and stands where an entry of its tag may; after it others of its tag may
 pub entry-own : (previous : Option Tag) (r : Row) (t : Option Tag) → opens_section t ≡ false → Ruled previous t r → (entry_after previous ≡ t) × (entry_after t ≡ t)
 unfolding tag_rule
-entry-own previous r (Some PlainContents) b h = absurd (never b)
-entry-own previous r (Some PackedContents) b h = absurd (never b)
-entry-own previous r (Some Names) b h = absurd (never b)
-entry-own previous r (Some Arguments) b h = absurd (never b)
-entry-own previous r (Some Unknown) b h = absurd (never b)
+entry-own previous r (Some PlainContents) b h = absurd cc
+entry-own previous r (Some PackedContents) b h = absurd cc
+entry-own previous r (Some Names) b h = absurd cc
+entry-own previous r (Some Arguments) b h = absurd cc
+entry-own previous r (Some Unknown) b h = absurd cc
 entry-own previous r (Some Content) b h = (tag_same (entry_after previous) (Some Content) (simp and-eq-true_iff at h).0, refl)
 entry-own previous r (Some Name) b h = (tag_same (entry_after previous) (Some Name) (simp and-eq-true_iff at h).0, refl)
 entry-own previous r (Some Pair) b h = (tag_same (entry_after previous) (Some Pair) (simp and-eq-true_iff at h).0, refl)
-entry-own previous r None b h = let z : ◌≡◌ {A = ℕ} 0 1 = cc in absurd (omega arith)
+entry-own previous r None b h = absurd cc
 
 module _ (payload edit : List ℕ) where
   pub begins-none : (t : Option Tag) → opens_section t ≡ false → (r : Row) (rows : List Row) → begun payload edit t r rows ≡ []
   unfolding begun
-  begins-none (Some PlainContents) b r rows = absurd (never b)
-  begins-none (Some PackedContents) b r rows = absurd (never b)
-  begins-none (Some Names) b r rows = absurd (never b)
-  begins-none (Some Arguments) b r rows = absurd (never b)
-  begins-none (Some Unknown) b r rows = absurd (never b)
+  begins-none (Some PlainContents) b r rows = cc
+  begins-none (Some PackedContents) b r rows = cc
+  begins-none (Some Names) b r rows = cc
+  begins-none (Some Arguments) b r rows = cc
+  begins-none (Some Unknown) b r rows = cc
   begins-none (Some Content) b r rows = refl
   begins-none (Some Name) b r rows = refl
   begins-none (Some Pair) b r rows = refl
@@ -112,7 +110,7 @@ module _ (payload edit : List ℕ) where
       let first = then-good _ _ _ e in
       let second = then-good _ _ _ first.2 in
       (is-text (text_span r) name first.1, is-text (value_span r) (inside-first _ _ others).0 second.1)
-  is_ok previous r None h within e = let z : ◌≡◌ {A = ℕ} 0 1 = cc in omega arith
+  is_ok previous r None h within e = cc
 
   -- ---- rows
 

@@ -7,7 +7,7 @@ use native.Mathlib.Omega.{arith}
 use lib.ListN.{length, length-append}
 use Rattle.wire.specs.Length.{wire_size}
 use Rattle.wire.proofs.PaddingLaws.{le-aligned}
-use Rattle.layout.specs.Spans.{Span}
+use Rattle.layout.specs.declared.span.Span.{Span}
 use Rattle.layout.proofs.Lists.{flat_map-append}
 use Rattle.table.specs.Rows.{spans_by, spans_of}
 use Rattle.table.specs.declared.row.Row.{Row}

@@ -6,7 +6,8 @@ use mathlib.Core.Bool.{true, false}
 use mathlib.Core.List.{List, [], ◌∷◌, ◌++◌, map, flat_map, append-nil, append_assoc}
 use mathlib.Core.Path.{◌≡◌, refl, ap, subst}
 use lib.ListN.{length}
-use Rattle.layout.specs.Spans.{Span, side_of, span_bytes}
+use Rattle.layout.specs.Spans.{side_of, span_bytes}
+use Rattle.layout.specs.declared.span.Span.{Span}
 use Rattle.layout.proofs.Lists.{flat_map-append}
 use Rattle.table.specs.Rows.{bytes_span, spans_by}
 use Rattle.table.specs.Tags.{tag_of, entry_after, opens_section}

@@ -63,7 +63,7 @@ Opens (r ∷ rows) = opens_section (tag_of r.tag) ≡ true
 none-leads : {A : Type 0} (t : Option Tag) (f : Row → A) → opens_section t ≡ false → (rows : List Row) → Opens rows → leading t f rows ≡ []
 none-leads t f entry [] opens = unfold leading in refl
 none-leads t f entry (r ∷ rows) opens =
-    leading-ends t f r rows (λ q. let other : opens_section (tag_of r.tag) ≡ false = ap opens_section q ∙ entry in let z : ◌≡◌ {A = ℕ} 0 1 = cc in omega arith)
+    leading-ends t f r rows (λ q. let other : opens_section (tag_of r.tag) ≡ false = ap opens_section q ∙ entry in cc)
 
 rows-open : (at : ℕ) (ss : List Section) → Opens (rows_from at ss)
 unfolding rows_from rows_of_section

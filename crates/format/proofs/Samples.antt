@@ -2,6 +2,7 @@
 -- Assumes nothing.
 use mathlib.Core.Path.{refl}
 use mathlib.Core.List.{flat_map}
+use Rattle.find.specs.Find.{until}
 use Rattle.find.specs.Nul.{until_nul}
 use Rattle.wire.specs.Number.{little_endian, bytes_of}
 use Rattle.wire.specs.Padding.{padding, aligned, all_zero}
@@ -21,5 +22,5 @@ use Rattle.format.specs.Samples.{SamplesHold}
 use Rattle.format.specs.Output.{answer, output_after}
 
 pub samples-hold : SamplesHold
-unfolding read_answer read_table rows_answer table_after parse parse_sections frame parse_section parse_contents parse_stored parse_names framed entries entry terminated_text write_answer write_output written_table written answer output_after resolve sections_of check_row check_rows check_texts obeys tag_rule all_inside spans_by same_tag check then check_text within_limits all_countable encode encode_section table_of rows_of flat_map side_of until_nul well_formed utf8_of octets_from char_length first_length begins little_endian bytes_of padding aligned all_zero
+unfolding read_answer read_table rows_answer table_after parse parse_sections frame parse_section parse_contents parse_stored parse_names framed entries entry terminated_text write_answer write_output written_table written answer output_after resolve sections_of check_row check_rows check_texts obeys tag_rule all_inside spans_by same_tag check then check_text within_limits all_countable encode encode_section table_of rows_of flat_map side_of until_nul until well_formed utf8_of octets_from char_length first_length begins little_endian bytes_of padding aligned all_zero
 samples-hold = refl

@@ -6,6 +6,7 @@ use mathlib.Core.Bool.{not}
 use mathlib.Core.List.{List, []}
 use mathlib.Core.Path.{◌≡◌, refl, ap}
 use borrow.Author.Tests.{not-true}
+use Rattle.find.specs.Find.{until}
 use Rattle.find.specs.Nul.{until_nul, has_nul}
 use Rattle.utf8.proofs.Laws.{empty}
 use Rattle.layout.specs.Spans.{part}
@@ -32,5 +33,5 @@ module _ (bytes : List ℕ) (start count : ℕ) where
   ok-text text is ok = rw is (ok-whole text ok)
 
 pub empty-text : Text []
-unfolding until_nul
+unfolding until_nul until
 empty-text = record { utf8 = empty; closed = refl }

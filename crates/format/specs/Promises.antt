@@ -3,7 +3,7 @@ use Rattle.std.specs.Prelude.{ℕ, ◌+◌, ◌-◌, ◌*◌, ◌/◌, ◌%◌, 
 use mathlib.Core.List.{List, [], ◌∷◌, ◌++◌, flat_map}
 use Rattle.layout.specs.Checked.{Checked}
 use Rattle.layout.specs.Refusals.{refusal_number, refusal_second}
-use Rattle.layout.specs.Spans.{Span}
+use Rattle.layout.specs.declared.span.Span.{Span}
 use Rattle.table.specs.Rows.{width, rows_of, table_of, spans_of}
 use Rattle.table.specs.declared.row.Row.{Row}
 use Rattle.layout.specs.declared.refusal.Refusal.{Refusal}

@@ -3,7 +3,8 @@ use Rattle.layout.specs.Refusals.{Answer}
 use Rattle.std.specs.Prelude.{ℕ, Option, Some, None}
 use mathlib.Core.List.{List, [], ◌∷◌, flat_map}
 use Rattle.layout.specs.Checked.{Checked, then}
-use Rattle.layout.specs.Spans.{Span, span}
+use Rattle.layout.specs.Spans.{span}
+use Rattle.layout.specs.declared.span.Span.{Span}
 use Rattle.table.specs.Rows.{plain_row, packed_row, content_row, name_row, text_span}
 use Rattle.table.specs.Tags.{tag_of}
 use Rattle.table.specs.declared.row.Row.{Row}

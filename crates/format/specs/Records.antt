@@ -1,11 +1,10 @@
 -- What sections say, record by record: a section's own record, then one for each of its entries. A row holds a record in its way, and so does a
 -- line of a sheet.
-use Rattle.std.specs.Prelude.{ℕ, Bool, true, false, ◌&&◌, ◌||◌, get_or, Option, Some}
+use Rattle.std.specs.Prelude.{ℕ, Bool, true, ◌&&◌, ◌||◌, get_or, Option, Some}
 use mathlib.Core.List.{List, [], ◌∷◌, ◌++◌, map, flat_map}
-use Rattle.table.specs.Tags.{same_tag, begins_section}
+use Rattle.table.specs.Tags.{follows, begins_section, leading_by}
 use Rattle.table.specs.declared.tag.Tag.{Tag}
 use Rattle.table.specs.declared.tag.Tag.TheVariants as tag
-use Rattle.format.specs.Rules.{follows}
 use Rattle.format.specs.Sections.{Name, Pair, Section, plain, packed, names, arguments, unknown}
 
 pub record Record : Type 0 where
@@ -88,8 +87,7 @@ pair_of r = record { name = text 0 r; value = text 1 r }
 
 -- the records of a tag that stand at the start, each as f has it; of no tag there are none
 unfoldable pub leading : {A : Type 0} → Option Tag → (Record → A) → List Record → List A
-leading tag f [] = []
-leading tag f (r ∷ rs) = elim (same_tag (Some r.tag) tag) [ true ↦ f r ∷ leading tag f rs | false ↦ [] ]
+leading tag f rs = leading_by (λ (r : Record). Some r.tag) tag f rs
 
 -- the section that a record of a tag begins, with the entries that follow it; any other record begins none
 unfoldable pub begun : Tag → Record → List Record → List Section

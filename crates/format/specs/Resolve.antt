@@ -1,9 +1,9 @@
 -- What rows say: sections, with the texts and bytes that the rows name.
-use Rattle.std.specs.Prelude.{ℕ, true, false, List, [], ◌∷◌, ◌++◌, Option, Some, None, Ok}
+use Rattle.std.specs.Prelude.{ℕ, List, [], ◌∷◌, ◌++◌, Option, Some, None, Ok}
 use Rattle.layout.specs.Checked.{Checked, then}
 use Rattle.layout.specs.Spans.{span_bytes}
 use Rattle.table.specs.Rows.{bytes_span, text_span, value_span}
-use Rattle.table.specs.Tags.{tag_of, same_tag}
+use Rattle.table.specs.Tags.{tag_of, leading_by}
 use Rattle.table.specs.declared.row.Row.{Row}
 use Rattle.table.specs.declared.tag.Tag.{Tag}
 use Rattle.table.specs.declared.tag.Tag.TheVariants as tag
@@ -12,8 +12,7 @@ use Rattle.format.specs.Sections.{Name, Pair, Section, plain, packed, names, arg
 
 -- the rows of a tag that stand at the start, each as f has it
 unfoldable pub leading : {A : Type 0} → Option Tag → (Row → A) → List Row → List A
-leading tag f [] = []
-leading tag f (r ∷ rows) = elim (same_tag (tag_of r.tag) tag) [ true ↦ f r ∷ leading tag f rows | false ↦ [] ]
+leading tag f rows = leading_by (λ (r : Row). tag_of r.tag) tag f rows
 
 module _ (payload edit : List ℕ) where
   abbrev pub content_of : Row → List ℕ

@@ -3,7 +3,8 @@
 -- a row's numbers fit 32 bits, it says so; else payloads, edit texts, tables and outputs are any.
 use Rattle.std.specs.Prelude.{ℕ, ◌+◌, ◌*◌, ◌/◌, ◌^◌, ◌≤◌, ◌<◌, true, List, [], ◌∷◌, map, ◌≡◌, length, get_or, take, set, Ok, Some}
 use Rattle.layout.specs.Checked.{Checked, check, then}
-use Rattle.layout.specs.Spans.{Span, part, span_bytes, inside}
+use Rattle.layout.specs.Spans.{part, span_bytes, inside}
+use Rattle.layout.specs.declared.span.Span.{Span}
 use Rattle.table.specs.Rows.{width, no_row, rows_of, store_row, name_row}
 use Rattle.table.specs.Tags.{tag_of}
 use Rattle.table.specs.declared.tag.Tag.TheVariants.{Name}

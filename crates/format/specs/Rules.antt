@@ -1,19 +1,17 @@
 -- The rules of rows: what a row of each tag may hold, and what it may follow.
-use Rattle.std.specs.Prelude.{ℕ, ◌%◌, Bool, true, false, cond, ◌&&◌, List, [], ◌∷◌, leb, eqb, Option, Some, None, Ok}
+use Rattle.std.specs.Prelude.{ℕ, Bool, true, false, cond, ◌&&◌, List, [], ◌∷◌, eqb, Option, Some, None, Ok}
 use Rattle.wire.specs.Padding.{all_zero}
 use Rattle.layout.specs.Checked.{Checked, check, then}
-use Rattle.layout.specs.Spans.{Span, inside}
+use Rattle.layout.specs.Kinds.{unknown_rule}
+use Rattle.layout.specs.Spans.{inside}
+use Rattle.layout.specs.declared.span.Span.{Span}
 use Rattle.layout.specs.TextCheck.{check_span}
 use Rattle.layout.specs.declared.refusal.Refusal.TheVariants.{BadRow}
 use Rattle.table.specs.Rows.{spans_of}
-use Rattle.table.specs.Tags.{tag_of, same_tag, entry_after, opens_section}
+use Rattle.table.specs.Tags.{tag_of, follows, opens_section}
 use Rattle.table.specs.declared.row.Row.{Row}
 use Rattle.table.specs.declared.tag.Tag.{Tag}
 use Rattle.table.specs.declared.tag.Tag.TheVariants.{PlainContents, PackedContents, Names, Arguments, Unknown, Content, Name, Pair}
-
--- an entry follows its section's row or a row of its own tag
-abbrev pub follows : Tag → Option Tag → Bool
-follows own previous = same_tag (entry_after previous) (Some own)
 
 -- The rule of a tag, its spans apart; `previous` is the tag of the row before, and None before the first. Numbers that a tag gives no meaning
 -- are 0. A row of no tag has no rule that it could obey.
@@ -22,7 +20,7 @@ tag_rule (Some PlainContents) previous r = eqb r.side 0 && all_zero (r.b ∷ r.c
 tag_rule (Some PackedContents) previous r = true
 tag_rule (Some Names) previous r = eqb r.side 0 && all_zero (r.a ∷ r.b ∷ r.c ∷ r.d ∷ r.e ∷ [])
 tag_rule (Some Arguments) previous r = eqb r.side 0 && all_zero (r.a ∷ r.b ∷ r.c ∷ r.d ∷ r.e ∷ [])
-tag_rule (Some Unknown) previous r = leb 3 r.a && leb r.a 65535 && eqb (r.c % 4) 0 && all_zero (r.d ∷ r.e ∷ [])
+tag_rule (Some Unknown) previous r = unknown_rule r.a r.c && all_zero (r.d ∷ r.e ∷ [])
 tag_rule (Some Content) previous r = follows Content previous && all_zero (r.c ∷ r.d ∷ r.e ∷ [])
 tag_rule (Some Name) previous r = follows Name previous && all_zero (r.d ∷ r.e ∷ [])
 tag_rule (Some Pair) previous r = follows Pair previous && all_zero (r.e ∷ [])

@@ -1,6 +1,7 @@
 -- What a row says, places apart: its tag, its numbers that are neither places nor lengths, and the texts and bytes that it names with their lengths.
 use Rattle.std.specs.Prelude.{ℕ, List, [], ◌∷◌, map, Option, Some, None}
-use Rattle.layout.specs.Spans.{Span, span_bytes}
+use Rattle.layout.specs.Spans.{span_bytes}
+use Rattle.layout.specs.declared.span.Span.{Span}
 use Rattle.table.specs.Rows.{spans_of}
 use Rattle.table.specs.Tags.{tag_of}
 use Rattle.table.specs.declared.row.Row.{Row}

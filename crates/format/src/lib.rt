@@ -18,7 +18,7 @@
 // rows have code, and are defined in crate table; section kinds, refusals, spans and what a text must be in layout;
 // numbers and padding in wire; NULs in find; UTF-8 in utf8.
 //
-// Proved: each promise of specs/Promises.antt, specs/RoundTrips.antt, specs/Secrecy.antt, specs/Card.antt and specs/RefusedCalls.antt, and that the
-// starred samples hold. Nothing is assumed.
+// Proved: each promise of specs/Promises.antt, specs/RoundTrips.antt, specs/Secrecy.antt, specs/Card.antt and
+// specs/RefusedCalls.antt, and that the starred samples hold. Nothing is assumed.
 
 #![tactic(auto)]

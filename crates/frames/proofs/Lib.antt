@@ -1,2 +1,3 @@
 pub mod Closed
 pub mod EntryClosed
+pub mod PayloadClosed

@@ -1,4 +1,4 @@
--- A section's headers and padding, around the bytes that it stores.
+-- A section's headers and padding, around the bytes that it stores, and the main header before all sections.
 use Rattle.std.specs.Prelude.{ℕ, ◌+◌, ◌-◌, List, ◌++◌, replicate}
 use Rattle.std.proofs.lemmas.List.Edits.{sets}
 use Rattle.wire.specs.Padding.{padding, aligned}
@@ -9,6 +9,10 @@ use Rattle.format.specs.Encoding.{u16, u32}
 -- a section header: a size, flags, a kind
 abbrev pub section_header : ℕ → ℕ → List ℕ
 section_header size kind = u32 size ++ (u16 0 ++ u16 kind)
+
+-- the main header: a size, flags, how many sections
+abbrev pub main_header : ℕ → ℕ → List ℕ
+main_header size sections = u32 size ++ (u16 0 ++ u16 sections)
 
 -- the body headers, for so many stored bytes
 abbrev pub contents_header : ℕ → ℕ → ℕ → ℕ → ℕ → List ℕ

@@ -20,7 +20,7 @@ use Rattle.format.specs.Records.{Record, text, name_of, pair_of, leading, begun,
 use Rattle.format.specs.Sections.{Name, Pair, Section}
 use Rattle.format.proofs.Encoding.{length-content_entry, length-name_entry, length-pair_entry}
 use Rattle.format.proofs.Records.{Placed, placed, begins, entry, begins-none, some_same, leading-no-tag}
-use Rattle.format.proofs.RecordsByTag.{leading-more, leading-ends}
+use Rattle.format.proofs.RecordsByTag.{leading-more, leading-ends, leading-count, leading-bytes}
 use Rattle.from_sheet.specs.Run.{entry_bytes, run, run_bytes, past}
 
 -- ---- record by record
@@ -43,7 +43,7 @@ module _ (t : Option Tag) where
     pub run-stops : same_tag (Some r.tag) t ≡ false → (run t (r ∷ rs) ≡ []) × (run_bytes t (r ∷ rs) ≡ []) × (past t (r ∷ rs) ≡ r ∷ rs)
     unfolding run_bytes past flat_map
     run-stops e =
-        let none = leading-ends t (λ (r : Record). r) r rs (λ q. let z : ◌≡◌ {A = ℕ} 0 1 = cc (same_tag_lem (Some r.tag) t q) in omega arith) in
+        let none = leading-ends t (λ (r : Record). r) r rs (λ q. cc (same_tag_lem (Some r.tag) t q)) in
         (none, rw none, rw (e, past))
 
 -- what the first of some records adds, where it has the tag
@@ -81,11 +81,8 @@ run-leading :
     ((r : Record) → r.tag ≡ t → entry_bytes r.tag r ≡ g (f r)) →
     (rs : List Record) →
     run_bytes (Some t) rs ≡ flat_map g (leading (Some t) f rs)
-unfolding run_bytes flat_map
-run-leading t f g h [] = unfold leading in refl
-run-leading t f g h (r ∷ rs) =
-    let rest = run-leading t f g h rs in
-    elim (tag-discrete (Some r.tag) (Some t)) [ yes q ↦ simp leading-more (rw (h r (some_same q), rest)) | no n ↦ simp leading-ends ]
+unfolding run_bytes
+run-leading t f g h rs = leading-bytes (Some t) f (λ (r : Record). entry_bytes r.tag r) g (λ r q. h r (some_same q)) rs
 
 module _ (rs : List Record) where
   pub run-contents : run_bytes (Some tag.Content) rs ≡ flat_map content_entry (leading (Some tag.Content) (text 0) rs)
@@ -99,12 +96,6 @@ module _ (rs : List Record) where
   pub run-pairs : run_bytes (Some tag.Pair) rs ≡ flat_map pair_entry (leading (Some tag.Pair) pair_of rs)
   unfolding entry_bytes
   run-pairs = run-leading tag.Pair pair_of pair_entry (λ r q. rw q) rs
-
-pub count-leading : {A : Type 0} (t : Option Tag) (f : Record → A) (rs : List Record) → length (leading t f rs) ≡ length (run t rs)
-count-leading t f [] = unfold leading in refl
-count-leading t f (r ∷ rs) =
-    let rest = count-leading t f rs in
-    elim (tag-discrete (Some r.tag) t) [ yes q ↦ simp leading-more (ap suc rest) | no n ↦ simp leading-ends ]
 
 -- nothing is an entry of no tag
 pub past-no-tag : (rs : List Record) → (run None rs ≡ []) × (past None rs ≡ rs)
@@ -129,7 +120,7 @@ module _ (rs : List Record) where
       ((a : A) → 1 ≤ length (g a)) →
       run_bytes t rs ≡ flat_map g (leading t f rs) →
       length (run t rs) ≤ length (run_bytes t rs)
-  as-many t f g least is = omega (arith, ap length is, count-leading t f rs, flat_map-least g least (leading t f rs))
+  as-many t f g least is = omega (arith, ap length is, leading-count t f rs, flat_map-least g least (leading t f rs))
 
   contents-many : length (run (Some tag.Content) rs) ≤ length (run_bytes (Some tag.Content) rs)
   contents-many = as-many (Some tag.Content) (text 0) content_entry content-least (run-contents rs)

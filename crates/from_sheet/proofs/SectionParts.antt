@@ -2,7 +2,7 @@
 -- Assumes nothing.
 use Rattle.std.specs.Prelude.{Option, Some}
 use Prim.Native.Nat.{ℕ, ◌-◌, ◌≤◌}
-use mathlib.Core.Bool.{true, false}
+use mathlib.Core.Bool.{true}
 use mathlib.Core.List.{List, [], ◌∷◌}
 use mathlib.Core.Path.{◌≡◌, refl, sym}
 use native.Mathlib.Omega.{arith}
@@ -17,13 +17,14 @@ use Rattle.layout.specs.declared.section_type.SourceInfoSectionType.TheVariants 
 use Rattle.format.specs.Encoding.{stored_bytes, body_header, kind_of}
 use Rattle.format.specs.Records.{Record, number_count, number, text, name_of, pair_of, begun}
 use Rattle.format.specs.Sections.{Section, unknown}
+use Rattle.format.proofs.RecordsByTag.{leading-count}
 use Rattle.format.proofs.SectionBytes.{start}
 use Rattle.frames.specs.Frame.{framed, contents_header, names_header, arguments_header}
 use Rattle.sheet.specs.Fields.{bytes_of_pairs}
 use Rattle.sheet.specs.Lines.{said}
 use Rattle.from_sheet.specs.Run.{run, run_bytes, past}
 use Rattle.from_sheet.specs.Section.{section_of}
-use Rattle.from_sheet.proofs.RunLaws.{run-contents, run-names, run-pairs, count-leading, past-no-tag, run-many}
+use Rattle.from_sheet.proofs.RunLaws.{run-contents, run-names, run-pairs, past-no-tag, run-many}
 
 -- ---- the parts, by the tag
 
@@ -39,7 +40,7 @@ module _ (r : Record) (rs : List Record) where
 
   pub plain-parts : Parts (section_of tag.PlainContents r rs) (run_bytes (Some tag.Content) rs) (λ n. contents_header (number 0 r) (compression_number compression.None) n n (count (Some tag.Content))) kind.SourceContents
   unfolding begun stored_bytes body_header kind_of
-  plain-parts = record { stored = sym (run-contents rs); headed = λ n. rw (count-leading (Some tag.Content) (text 0) rs) refl; kinded = refl }
+  plain-parts = record { stored = sym (run-contents rs); headed = λ n. rw (leading-count (Some tag.Content) (text 0) rs) refl; kinded = refl }
 
   pub packed-parts : Parts (section_of tag.PackedContents r rs) (text 0 r) (λ n. contents_header (number 0 r) (compression_number compression.Zlib) n (number 2 r) (number 1 r)) kind.SourceContents
   unfolding begun stored_bytes body_header kind_of
@@ -47,11 +48,11 @@ module _ (r : Record) (rs : List Record) where
 
   pub names-parts : Parts (section_of tag.Names r rs) (run_bytes (Some tag.Name) rs) (λ n. names_header n (count (Some tag.Name))) kind.SourceNames
   unfolding begun stored_bytes body_header kind_of
-  names-parts = record { stored = sym (run-names rs); headed = λ n. rw (count-leading (Some tag.Name) name_of rs) refl; kinded = refl }
+  names-parts = record { stored = sym (run-names rs); headed = λ n. rw (leading-count (Some tag.Name) name_of rs) refl; kinded = refl }
 
   pub arguments-parts : Parts (section_of tag.Arguments r rs) (run_bytes (Some tag.Pair) rs) (λ n. arguments_header n (count (Some tag.Pair))) kind.Arguments
   unfolding begun stored_bytes body_header kind_of
-  arguments-parts = record { stored = sym (run-pairs rs); headed = λ n. rw (count-leading (Some tag.Pair) pair_of rs) refl; kinded = refl }
+  arguments-parts = record { stored = sym (run-pairs rs); headed = λ n. rw (leading-count (Some tag.Pair) pair_of rs) refl; kinded = refl }
 
   pub unknown-parts : Parts (section_of tag.Unknown r rs) (text 0 r) (λ n. []) (kind.Unknown (number 0 r))
   unfolding begun stored_bytes body_header kind_of
@@ -68,10 +69,6 @@ closes parts output start end n e = rw (parts.kinded, parts.headed n) e
 
 -- ---- where a tag begins a section
 
--- what `begins_section` says of any other is absurd
-pub no-section : false ≡ true → ⊥
-no-section b = let z : ◌≡◌ {A = ℕ} 0 1 = cc in omega arith
-
 pub header-start : (t : Tag) (r : Record) (rs : List Record) → begins_section t ≡ true → start (section_of t r rs) ≡ headers_size t
 unfolding begun
 header-start tag.PlainContents r rs b = refl
@@ -79,9 +76,9 @@ header-start tag.PackedContents r rs b = refl
 header-start tag.Names r rs b = refl
 header-start tag.Arguments r rs b = refl
 header-start tag.Unknown r rs b = refl
-header-start tag.Content r rs b = absurd (no-section b)
-header-start tag.Name r rs b = absurd (no-section b)
-header-start tag.Pair r rs b = absurd (no-section b)
+header-start tag.Content r rs b = absurd cc
+header-start tag.Name r rs b = absurd cc
+header-start tag.Pair r rs b = absurd cc
 
 pub begins-one : (t : Tag) (r : Record) (rs : List Record) → begins_section t ≡ true → begun t r rs ≡ get_or (begun t r rs) 0 (unknown 0 []) ∷ []
 unfolding begun
@@ -90,9 +87,9 @@ begins-one tag.PackedContents r rs b = refl
 begins-one tag.Names r rs b = refl
 begins-one tag.Arguments r rs b = refl
 begins-one tag.Unknown r rs b = refl
-begins-one tag.Content r rs b = absurd (no-section b)
-begins-one tag.Name r rs b = absurd (no-section b)
-begins-one tag.Pair r rs b = absurd (no-section b)
+begins-one tag.Content r rs b = absurd cc
+begins-one tag.Name r rs b = absurd cc
+begins-one tag.Pair r rs b = absurd cc
 
 -- ---- what a section stores: the bytes that its record says, or its entries
 
@@ -126,9 +123,9 @@ entries-stored tag.PackedContents r rs b p u = absurd (p refl)
 entries-stored tag.Names r rs b p u = (names-parts r rs).stored
 entries-stored tag.Arguments r rs b p u = (arguments-parts r rs).stored
 entries-stored tag.Unknown r rs b p u = absurd (u refl)
-entries-stored tag.Content r rs b p u = absurd (no-section b)
-entries-stored tag.Name r rs b p u = absurd (no-section b)
-entries-stored tag.Pair r rs b p u = absurd (no-section b)
+entries-stored tag.Content r rs b p u = absurd cc
+entries-stored tag.Name r rs b p u = absurd cc
+entries-stored tag.Pair r rs b p u = absurd cc
 
 -- there are no more entries than stored bytes
 pub few-entries : (t : Tag) (r : Record) (rs : List Record) → begins_section t ≡ true → length (run (entry_tag t) rs) ≤ length (stored_bytes (section_of t r rs))
@@ -137,6 +134,6 @@ few-entries tag.PackedContents r rs b = rw (past-no-tag rs).0 (omega arith)
 few-entries tag.Names r rs b = rw (names-parts r rs).stored (run-many rs tag.Names)
 few-entries tag.Arguments r rs b = rw (arguments-parts r rs).stored (run-many rs tag.Arguments)
 few-entries tag.Unknown r rs b = rw (past-no-tag rs).0 (omega arith)
-few-entries tag.Content r rs b = absurd (no-section b)
-few-entries tag.Name r rs b = absurd (no-section b)
-few-entries tag.Pair r rs b = absurd (no-section b)
+few-entries tag.Content r rs b = absurd cc
+few-entries tag.Name r rs b = absurd cc
+few-entries tag.Pair r rs b = absurd cc

@@ -1,6 +1,6 @@
--- The lines of a sheet from a place on, as the records that they say. It is how the second pass goes; that these are the records of the sheet is a
--- theorem (proofs/RecordsFrom.antt).
-use Rattle.std.specs.Prelude.{ℕ, true, List, [], ◌∷◌, map, ◌≡◌, drop, Option, Some, None, unwrap_or}
+-- The lines that bytes are, of a sheet or of the rest of one, as the records that they say. It is how the second pass goes; that these are the records of
+-- the sheet is a theorem (proofs/RecordsFrom.antt).
+use Rattle.std.specs.Prelude.{ℕ, true, List, [], ◌∷◌, map, ◌≡◌, Option, Some, None, unwrap_or}
 use Rattle.table.specs.declared.tag.Tag.{Tag}
 use Rattle.table.specs.declared.tag.Tag.TheVariants.{Pair}
 use Rattle.format.specs.Records.{Record, in_order, sections}
@@ -23,12 +23,11 @@ unfoldable pub closed_parts : List ℕ → List (List ℕ) → List (List ℕ)
 closed_parts last [] = []
 closed_parts first (next ∷ rest) = first ∷ closed_parts next rest
 
-module _ (s : List ℕ) (at : ℕ) where
-  abbrev pub records_from : List Record
-  records_from = map record_of (closed_parts (split newline (drop at s)).first (split newline (drop at s)).rest)
+abbrev pub records_in : List ℕ → List Record
+records_in s = map record_of (closed_parts (split newline s).first (split newline s).rest)
 
-  abbrev pub sections_from : List Section
-  sections_from = sections records_from
+abbrev pub sections_in : List ℕ → List Section
+sections_in s = sections (records_in s)
 
 -- the records that are left, where the first of them is made and the others are still to be: none where there is no first
 abbrev pub ahead_of : Option Record → List Record → List Record
@@ -47,10 +46,10 @@ unfoldable pub LinesChecked : List ℕ → List (List ℕ) → Type 0
 LinesChecked last [] = last ≡ []
 LinesChecked first (next ∷ rest) = LineChecked first × LinesChecked next rest
 
--- of those from a place on
-abbrev pub CheckedFrom : List ℕ → ℕ → Type 0
-CheckedFrom s at = LinesChecked (split newline (drop at s)).first (split newline (drop at s)).rest
+-- of those that bytes are
+abbrev pub AllChecked : List ℕ → Type 0
+AllChecked s = LinesChecked (split newline s).first (split newline s).rest
 
--- and that place is a section's line, or the end
-abbrev pub AtSection : List ℕ → ℕ → Type 0
-AtSection s at = CheckedFrom s at × (in_order None (records_from s at) ≡ true)
+-- and the first is a section's, if there is one
+abbrev pub AllOrdered : List ℕ → Type 0
+AllOrdered s = AllChecked s × (in_order None (records_in s) ≡ true)

@@ -1,6 +1,7 @@
 // Entries of contents and of names, and pairs, from the fields of their lines, stored at a place of the output. Each
 // answers the place after it. Crate write has the same of texts that stand in bytes: one for both would need a trait with a
-// law for what a text stores, and two types that keep it, which is no plainer than four functions of two or three lines.
+// law for what a text stores, and two types that keep it, which is no plainer than four functions of two or three lines. A
+// content stands beside a name, and each has a bound, for the reasons that crate write has.
 ghost use Rattle.std.specs.Prelude.{◌≡◌, ◌+◌, ◌≤◌, length};
 ghost use Rattle.std.proofs.lemmas.List.Edits.{sets};
 ghost use Rattle.wire.specs.Length.{wire_size};
@@ -13,8 +14,7 @@ use layout::SourceInfoSectionType;
 
 // A content.
 pub fn store_content(output: &mut [u8], at: u32, field: &[u8]) -> usize
-    requires field_in_bounds { at + length (content_entry (unescape field.now)) ≤ length output.old }
-    requires field_bound { at + length (content_entry (unescape field.now)) ≤ limit }
+    requires { at + length (content_entry (unescape field.now)) ≤ limit }
     ensures value { result ≡ at + length (content_entry (unescape field.now)) }
     ensures output_after { output.new ≡ sets output.old at (content_entry (unescape field.now)) }
 {
@@ -25,8 +25,7 @@ pub fn store_content(output: &mut [u8], at: u32, field: &[u8]) -> usize
 
 // A name, with its content's size.
 pub fn store_name(output: &mut [u8], at: u32, field: &[u8], content_size: u32) -> usize
-    requires content_size_in_bounds { at + length (name_entry (name (unescape field.now) content_size)) ≤ length output.old }
-    requires content_size_bound { at + length (name_entry (name (unescape field.now) content_size)) ≤ limit }
+    requires { at + length (name_entry (name (unescape field.now) content_size)) ≤ limit }
     ensures value { result ≡ at + length (name_entry (name (unescape field.now) content_size)) }
     ensures output_after { output.new ≡ sets output.old at (name_entry (name (unescape field.now) content_size)) }
 {
@@ -37,8 +36,7 @@ pub fn store_name(output: &mut [u8], at: u32, field: &[u8], content_size: u32) -
 
 // A text with its NUL.
 fn store_text(output: &mut [u8], at: u32, field: &[u8]) -> usize
-    requires field_in_bounds { at + wire_size (length (unescape field.now)) ≤ length output.old }
-    requires field_bound { at + wire_size (length (unescape field.now)) ≤ limit }
+    requires { at + wire_size (length (unescape field.now)) ≤ limit }
     ensures value { result ≡ at + wire_size (length (unescape field.now)) }
     ensures output_after { output.new ≡ sets output.old at (terminate (unescape field.now)) }
 {
@@ -48,8 +46,7 @@ fn store_text(output: &mut [u8], at: u32, field: &[u8]) -> usize
 
 // A pair: its name and its value.
 pub fn store_pair(output: &mut [u8], at: u32, key: &[u8], value: &[u8]) -> usize
-    requires value_in_bounds { at + length (pair_entry (pair (unescape key.now) (unescape value.now))) ≤ length output.old }
-    requires value_bound { at + length (pair_entry (pair (unescape key.now) (unescape value.now))) ≤ limit }
+    requires { at + length (pair_entry (pair (unescape key.now) (unescape value.now))) ≤ limit }
     ensures value { result ≡ at + length (pair_entry (pair (unescape key.now) (unescape value.now))) }
     ensures output_after { output.new ≡ sets output.old at (pair_entry (pair (unescape key.now) (unescape value.now))) }
 {

@@ -1,9 +1,9 @@
 // A line that the first pass has checked, as the record that it says.
-ghost use Rattle.std.specs.Prelude.{true, ◌≡◌, ◌-◌, ◌≤◌, ◌<◌, get_or, ◌+◌};
+ghost use Rattle.std.specs.Prelude.{true, ◌≡◌, ◌-◌, ◌≤◌, ◌<◌, ◌+◌};
 ghost use Rattle.table.specs.declared.tag.Tag.TheVariants.{Unknown};
 ghost use Rattle.format.specs.Records.{Record, number_count, text_count, number, text};
 ghost use Rattle.sheet.specs.Lines.{said_by, is_made, is_ruled, is_shown, said};
-ghost use Rattle.from_sheet.specs.Records.{fields_of, tag_in, record_of, LineChecked};
+ghost use Rattle.from_sheet.specs.Records.{fields_of, record_of, LineChecked};
 
 use line_reader::{SplitLine, read_number};
 use std::marker::Model;

@@ -1,8 +1,8 @@
-// The records that the lines of a checked sheet say, from a place on.
+// The records that the lines of a checked sheet say.
 ghost use Rattle.std.specs.Prelude.{[], ◌∷◌, ◌≡◌, List, MatchOption, Some};
 ghost use Rattle.std.specs.Iterator.{YieldsFirst, item_count};
 ghost use Rattle.format.specs.Records.{Record};
-ghost use Rattle.from_sheet.specs.Records.{ahead_of, records_from, CheckedFrom};
+ghost use Rattle.from_sheet.specs.Records.{ahead_of, records_in, AllChecked};
 ghost use Rattle.from_sheet.specs.Run.{run};
 
 use crate::record::LineRecord;
@@ -13,41 +13,39 @@ use table::Tag;
 // it does not make it twice.
 #[derive(Drop)]
 pub struct Records<'a> {
-    sheet: &'a [u8],
     ahead: Option<LineRecord<'a>>,
-    // the line after it
-    at: usize,
+    // the lines after it
+    rest: &'a [u8],
 }
 
 impl<'a> Model for Records<'a> {
     ghost Value = { List Record };
 
-    ghost view = { λ r. ahead_of r.ahead (records_from r.sheet.now r.at) };
+    ghost view = { λ r. ahead_of r.ahead (records_in r.rest.now) };
 
-    ghost invariant = { λ r. CheckedFrom r.sheet.now r.at };
+    ghost invariant = { λ r. AllChecked r.rest.now };
 }
 
-// The record of the line at a place, if one is left, and the place of the next line.
-fn record_at<'a>(sheet: &'a [u8], at: usize) -> (Option<LineRecord<'a>>, usize)
-    requires { CheckedFrom sheet.now at }
-    ensures records { records_from sheet.now at ≡ ahead_of result.0 (records_from sheet.now result.1) }
-    ensures checked { CheckedFrom sheet.now result.1 }
+// The record of the first line, if there is one, and the lines after it.
+fn split_record(lines: &[u8]) -> (Option<LineRecord<'_>>, &[u8])
+    requires { AllChecked lines.now }
+    ensures records { records_in lines.now ≡ ahead_of result.0 (records_in result.1.now) }
+    ensures checked { AllChecked result.1.now }
 {
-    if sheet.len() <= at {
-        return (None, at);
+    match lines::split_line(lines) {
+        Some((line, rest)) => (Some(LineRecord::new(line)), rest),
+        None => (None, lines),
     }
-    let end = lines::line_end(sheet, at);
-    (Some(LineRecord::new(&sheet[at..end])), end + 1)
 }
 
 impl<'a> Records<'a> {
     // All records of a sheet.
     pub fn new(sheet: &'a [u8]) -> Records<'a>
-        requires { CheckedFrom sheet.now 0 }
-        ensures { result ≡ records_from sheet.now 0 }
+        requires { AllChecked sheet.now }
+        ensures { result ≡ records_in sheet.now }
     {
-        let (ahead, at) = record_at(sheet, 0);
-        Records { sheet, ahead, at }
+        let (ahead, rest) = split_record(sheet);
+        Records { ahead, rest }
     }
 
     // The next record, if one of a tag is next.
@@ -71,7 +69,7 @@ impl<'a> Iterator for Records<'a> {
 
     fn next(&mut self) -> Option<LineRecord<'a>> {
         let record = self.ahead.take()?;
-        (self.ahead, self.at) = record_at(self.sheet, self.at);
+        (self.ahead, self.rest) = split_record(self.rest);
         Some(record)
     }
 }

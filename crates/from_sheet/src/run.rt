@@ -18,8 +18,7 @@ pub struct RunEnd {
 
 // Stores the entry that a record is, and answers the place after it. A section's own record is no entry.
 fn store_entry(output: &mut [u8], to: u32, record: &LineRecord<'_>) -> usize
-    requires in_bounds { to + length (entry_bytes record.now.tag record.now) ≤ length output.old }
-    requires bound { to + length (entry_bytes record.now.tag record.now) ≤ limit }
+    requires { to + length (entry_bytes record.now.tag record.now) ≤ limit }
     ensures value { result ≡ to + length (entry_bytes record.now.tag record.now) }
     ensures output_after { output.new ≡ sets output.old to (entry_bytes record.now.tag record.now) }
 {
@@ -39,7 +38,6 @@ fn store_entry(output: &mut [u8], to: u32, record: &LineRecord<'_>) -> usize
 // taken.
 pub fn store_entries(records: &mut Records<'_>, tag: Tag, output: &mut [u8], start: usize) -> RunEnd
     requires few { length (run (Some tag) records.old) < 2 ^ 32 }
-    requires in_bounds { start + length (run_bytes (Some tag) records.old) ≤ length output.old }
     requires bound { start + length (run_bytes (Some tag) records.old) ≤ limit }
     ensures records_after { records.new ≡ past (Some tag) records.old }
     ensures to_value { result.to ≡ start + length (run_bytes (Some tag) records.old) }

@@ -25,7 +25,6 @@ fn store_body(
     start: usize,
 ) -> RunEnd
     requires begins { begins_section record.now.tag ≡ true }
-    requires in_bounds { start + length (stored_bytes (section_of record.now.tag record.now records.old)) ≤ length output.old }
     requires bound { start + length (stored_bytes (section_of record.now.tag record.now records.old)) ≤ limit }
     ensures records_after { records.new ≡ past (entry_tag record.now.tag) records.old }
     ensures to_value { result.to ≡ start + length (stored_bytes (section_of record.now.tag record.now records.old)) }
@@ -52,10 +51,11 @@ fn store_body(
 }
 
 // Closes a section that a record begins, which stands at `start`, whose stored bytes end at `end` and which has so many
-// entries. Answers the place after it.
+// entries. Answers the place after it. Crate write closes sections in five writers, as document 01 has them: with a row's numbers,
+// and not a record's.
 fn close(output: &mut [u8], record: &LineRecord<'_>, start: u32, end: u32, count: u32) -> usize
     requires begins { begins_section record.now.tag ≡ true }
-    requires end_bound { start + headers_size record.now.tag ≤ end }
+    requires end_least { start + headers_size record.now.tag ≤ end }
     ensures value { result ≡ start + aligned (end - start) }
     ensures framed { Framed record.now output.old start end count output.new }
 {
@@ -102,7 +102,6 @@ pub fn store_section(
     to: usize,
 ) -> usize
     requires order { in_order None (record.now ∷ records.old) ≡ true }
-    requires in_bounds { to + length (encode_section (section_of record.now.tag record.now records.old)) ≤ length output.old }
     requires bound { to + length (encode_section (section_of record.now.tag record.now records.old)) ≤ limit }
     ensures fewer { length records.new ≤ length records.old }
     ensures order_after { in_order None records.new ≡ true }

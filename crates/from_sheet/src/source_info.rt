@@ -14,7 +14,6 @@ use layout::SourceInfoSectionType;
 fn store_sections(mut records: Records<'_>, output: &mut [u8]) -> u16
     requires order { in_order None records ≡ true }
     requires few { length (sections records) ≤ 65535 }
-    requires in_bounds { 8 + length (flat_map encode_section (sections records)) ≤ length output.old }
     requires bound { 8 + length (flat_map encode_section (sections records)) ≤ limit }
     ensures value { result ≡ length (sections records.entry) }
     ensures output_after { output.new ≡ sets output.old 8 (flat_map encode_section (sections records.entry)) }
@@ -29,16 +28,14 @@ fn store_sections(mut records: Records<'_>, output: &mut [u8]) -> u16
 }
 
 // The payload of the sections that records say, of so many bytes, from the output's start on.
+#[tactic(auto, using(frames::proofs::PayloadClosed::payload_closed))]
 pub fn store_srci(records: Records<'_>, output: &mut [u8], size: u32)
     requires order { in_order None records ≡ true }
     requires few { length (sections records) ≤ 65535 }
     requires size_value { size ≡ length (encode (sections records)) }
-    requires size_in_bounds { size ≤ length output.old }
     requires size_le_limit { size ≤ limit }
     ensures { output.new ≡ sets output.old 0 (encode (sections records.entry)) }
 {
     let sections = store_sections(records, output);
-    wire::write_u32(output, 0, size);
-    wire::write_u16(output, 4, 0);
-    wire::write_u16(output, 6, sections);
+    frames::close_payload(output, size, sections);
 }

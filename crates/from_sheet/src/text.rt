@@ -1,18 +1,19 @@
 // The text that a field says: its escapes are resolved.
 ghost use Rattle.std.specs.Prelude.{◌≡◌, ◌+◌, ◌≤◌, length};
 ghost use Rattle.std.proofs.lemmas.List.Edits.{sets};
+ghost use Rattle.format.specs.Encoding.{limit};
 ghost use Rattle.sheet.specs.Fields.{meant, unescape};
 ghost use Rattle.from_sheet.specs.Escape.{is_pair};
 
-const BACKSLASH: u8 = b'\\';
+use sheet::{BACKSLASH, NEWLINE, TAB};
 
 // What a backslash followed by a letter stands for.
 fn meant_by(letter: u8) -> u8
     ensures { result ≡ meant letter }
 {
     match letter {
-        b't' => b'\t',
-        b'n' => b'\n',
+        b't' => TAB,
+        b'n' => NEWLINE,
         _ => BACKSLASH,
     }
 }
@@ -28,7 +29,7 @@ fn is_pair(bytes: &[u8]) -> bool
 // A whole text. Bytes that stand for themselves are copied in runs; a backslash with nothing after it is one of them.
 // Answers the place after it.
 pub fn write_unescaped(output: &mut [u8], at: usize, field: &[u8]) -> usize
-    requires { at + length (unescape field.now) ≤ length output.old }
+    requires { at + length (unescape field.now) ≤ limit }
     ensures value { result ≡ at + length (unescape field.now) }
     ensures output_after { output.new ≡ sets output.old at (unescape field.now) }
 {
@@ -36,11 +37,11 @@ pub fn write_unescaped(output: &mut [u8], at: usize, field: &[u8]) -> usize
     let mut rest = field;
     while let [_, after @ ..] = rest {
         if is_pair(rest) {
-            output[to] = meant_by(rest[1]);
+            wire::write_array::<1>(output, to, [meant_by(rest[1])]);
             to += 1;
             rest = &rest[2..];
         } else {
-            let run = 1 + find::find_any(after, BACKSLASH, BACKSLASH, BACKSLASH);
+            let run = 1 + find::find_any(after, &[BACKSLASH]);
             wire::write_bytes(output, to, &rest[..run]);
             to += run;
             rest = &rest[run..];

@@ -3,6 +3,14 @@
 // One function runs each of them. The first pass checks the payload (crate parse). The output is then written by one
 // function of the job to an output of no bytes, which tells how many bytes it takes, and where there is room once more.
 //
+// Reading, writing and the way in from a sheet measure by one pass and store by another, and test the room in two lines of their own
+// (crates read, write, from_sheet). As such jobs each would be a struct of what it is lent, with an impl of both passes and of
+// the law that ties them: longer than the lines that it saves; and reading has rows for an output, and a refusal of its own.
+// The proofs of writing and of the way in cite the laws of format/proofs/Output.antt. The one of `run` cites those of
+// format/proofs/Measured.antt, which are proved from the same; the one of reading cites format/proofs/Answers.antt.
+// A helper that tests the room would save two lines a job, and want a contract; and each proof, of which the test is one
+// `omega` now, would undo the helper's `?` as it undoes that of the first pass.
+//
 // Proved: the answer and the output afterwards are those that the job's definition gives, for every byte string and every
 // output. Nothing is assumed.
 #![tactic(auto)]

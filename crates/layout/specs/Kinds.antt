@@ -1,7 +1,9 @@
--- The numbers of section kinds and of compression, as DxilContainer.h gives them; and which kinds are known.
-use Rattle.std.specs.Prelude.{ℕ, Bool, true, false, zero, suc, Option, None, Some}
+-- The numbers of section kinds and of compression, as DxilContainer.h gives them; which kinds are known; and the headers of entries.
+use Rattle.std.specs.Prelude.{ℕ, ◌%◌, Bool, true, false, ◌&&◌, leb, eqb, zero, suc, Option, None, Some}
 use Rattle.layout.specs.declared.section_type.SourceInfoSectionType.{SourceInfoSectionType}
 use Rattle.layout.specs.declared.section_type.SourceInfoSectionType.TheVariants.{SourceContents, SourceNames, Arguments, Unknown}
+use Rattle.layout.specs.declared.entry_kind.EntryKind.{EntryKind}
+use Rattle.layout.specs.declared.entry_kind.EntryKind.TheVariants.{Content, Name}
 use Rattle.layout.specs.declared.compression.SourceCompression.{SourceCompression}
 use Rattle.layout.specs.declared.compression.SourceCompression.TheVariants as stored
 
@@ -26,6 +28,10 @@ known SourceNames = true
 known Arguments = true
 known (Unknown n) = false
 
+-- the rule of unknown sections: a kind that is none of these and fits its field of 16 bits, and bytes whose number is a multiple of 4
+abbrev pub unknown_rule : ℕ → ℕ → Bool
+unknown_rule kind size = leb 3 kind && leb kind 65535 && eqb (size % 4) 0
+
 -- the compression that a number stands for, if it stands for one
 abbrev pub compression : ℕ → Option SourceCompression
 compression zero = Some stored.None
@@ -41,3 +47,8 @@ checked_compression (suc n) = stored.Zlib
 abbrev pub compression_number : SourceCompression → ℕ
 compression_number stored.None = 0
 compression_number stored.Zlib = 1
+
+-- the bytes of an entry before its text
+abbrev pub header_size : EntryKind → ℕ
+header_size Content = 12
+header_size Name = 16

@@ -1,10 +1,6 @@
 -- A span: a text or bytes that a row names, by its side, its start and its count of bytes.
 use Rattle.std.specs.Prelude.{ℕ, zero, suc, ◌+◌, Bool, ◌&&◌, List, leb, length, take, drop}
-
-pub record Span : Type 0 where
-  pub side : ℕ
-  pub start : ℕ
-  pub count : ℕ
+use Rattle.layout.specs.declared.span.Span.{Span}
 
 abbrev pub span : ℕ → ℕ → ℕ → Span
 span side start count = record { side = side; start = start; count = count }

@@ -3,7 +3,8 @@ use Rattle.std.specs.Prelude.{ℕ, not, List, Ok}
 use Rattle.utf8.specs.Rfc3629.{well_formed}
 use Rattle.find.specs.Nul.{has_nul}
 use Rattle.layout.specs.Checked.{Checked, check}
-use Rattle.layout.specs.Spans.{Span, side_of, part}
+use Rattle.layout.specs.Spans.{side_of, part}
+use Rattle.layout.specs.declared.span.Span.{Span}
 use Rattle.layout.specs.declared.refusal.Refusal.TheVariants.{NotUtf8, InnerNul}
 
 -- checks a whole text

@@ -2,6 +2,7 @@
 ghost use Rattle.std.specs.Prelude.{◌≡◌};
 ghost use Rattle.layout.specs.Kinds.{compression, checked_compression, compression_number};
 
+// In the order of their numbers, from 0.
 #[derive(Clone, Copy)]
 pub enum SourceCompression {
     // The entries stand in the section as they are: a plain section.
@@ -27,18 +28,12 @@ impl SourceCompression {
     pub fn checked(value: u16) -> Self
         ensures { result ≡ checked_compression value }
     {
-        match value {
-            0 => SourceCompression::None,
-            _ => SourceCompression::Zlib,
-        }
+        SourceCompression::from_u16(value).unwrap_or(SourceCompression::Zlib)
     }
 
     pub fn to_u16(self) -> u16
         ensures { result ≡ compression_number self }
     {
-        match self {
-            SourceCompression::None => 0,
-            SourceCompression::Zlib => 1,
-        }
+        self as u16
     }
 }

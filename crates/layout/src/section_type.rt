@@ -1,6 +1,6 @@
 // Section kinds, as DxilSourceInfoSectionType numbers them, and the sizes of the layout's headers.
 ghost use Rattle.std.specs.Prelude.{◌≡◌};
-ghost use Rattle.layout.specs.Kinds.{section_type, kind_number, known};
+ghost use Rattle.layout.specs.Kinds.{section_type, kind_number, known, unknown_rule};
 
 #[derive(Clone, Copy)]
 pub enum SourceInfoSectionType {
@@ -67,11 +67,13 @@ impl SourceInfoSectionType {
     pub fn is_known(self) -> bool
         ensures { result ≡ known self }
     {
-        match self {
-            SourceInfoSectionType::SourceContents => true,
-            SourceInfoSectionType::SourceNames => true,
-            SourceInfoSectionType::Arguments => true,
-            SourceInfoSectionType::Unknown(_) => false,
-        }
+        !matches!(self, SourceInfoSectionType::Unknown(_))
+    }
+
+    // The rule of unknown sections: whether a kind is none of those above and fits its field, and its bytes make whole words.
+    pub fn may_be_unknown(kind: u32, size: usize) -> bool
+        ensures { result ≡ unknown_rule kind size }
+    {
+        (3 <= kind) & (kind <= 65535) & (size % 4 == 0)
     }
 }

@@ -1,8 +1,8 @@
 // The text or bytes of a span: a part of the payload or of the edit text, by its side.
 ghost use Rattle.std.specs.Prelude.{◌≡◌};
-ghost use Rattle.layout.specs.Spans.{span, side_of, part, span_bytes};
+ghost use Rattle.layout.specs.Spans.{side_of, part, span_bytes};
 
-use wire::TextLength;
+use crate::span::Span;
 
 // The two sides that a span may lie on. Its side is a number, as a row of the C interface holds it.
 #[derive(Clone, Copy)]
@@ -21,18 +21,15 @@ impl<'a> Sides<'a> {
         if side == 0 { self.payload } else { self.edit }
     }
 
-    // The `count` bytes of a side from `start` on; fewer where it ends before.
-    pub fn bytes_of(self, side: u32, start: u32, count: u32) -> &'a [u8]
-        ensures { result.now ≡ span_bytes self.entry.payload.now self.entry.edit.now (span side start count) }
+    // The bytes that a span names; fewer where its side ends before.
+    pub fn bytes_of(self, span: Span) -> &'a [u8]
+        ensures { result.now ≡ span_bytes self.entry.payload.now self.entry.edit.now span }
     {
-        part_of(self.side(side), start as usize, count as usize)
-    }
-
-    // The text of a side from `start` on.
-    pub fn text_of(self, side: u32, start: u32, text: TextLength) -> &'a [u8]
-        ensures { result.now ≡ span_bytes self.entry.payload.now self.entry.edit.now (span side start text.0) }
-    {
-        self.bytes_of(side, start, text.0)
+        part_of(
+            self.side(span.side),
+            span.start as usize,
+            span.count as usize,
+        )
     }
 }
 

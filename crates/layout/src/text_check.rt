@@ -1,11 +1,11 @@
 // What a text must be, wherever it stands: UTF-8, with no NUL inside.
-ghost use Rattle.std.specs.Prelude.{true, ◌≡◌, ℕ, ◌<◌, length, get_or};
+ghost use Rattle.std.specs.Prelude.{◌≡◌};
 ghost use Rattle.layout.specs.TextCheck.{check_whole, check_text};
 ghost use Rattle.layout.specs.declared.refusal.Refusal.TheVariants.{NotUtf8};
 
 use crate::refusal::Refusal;
 use crate::text::part_of;
-use utf8::Utf8Error;
+use utf8::{Utf8Error, are_plain};
 use wire::TextLength;
 
 // A text that is ill formed anywhere is refused, and where does not matter.
@@ -21,27 +21,13 @@ impl From<Utf8Error> for Refusal {
 // then a look at all of it would be in vain.
 const SHORT: usize = 4096;
 
-// Whether all bytes of a text are ASCII and none is a NUL. The loop does not branch on the text, so that it
-// can be compiled to vector code.
-fn is_plain(text: &[u8]) -> bool
-    ensures { (k : ℕ) → k < length text.now → result ≡ true → (0 < get_or text.now k 0) × (get_or text.now k 0 < 0x80) }
-{
-    let mut plain = true;
-    for byte in text {
-        plain = plain & (*byte != 0) & (*byte < 0x80);
-    }
-    plain
-}
-
 // A whole text. Of a short plain one a single look at each byte tells that it passes; any other is gone through for its
 // characters, and then for a NUL.
 pub fn check_whole(text: &[u8]) -> Result<(), Refusal>
     ensures { result ≡ check_whole text.now }
 {
-    if text.len() < SHORT {
-        if is_plain(text) {
-            return Ok(());
-        }
+    if text.len() < SHORT && are_plain(text) {
+        return Ok(());
     }
     validate::validate(text)?;
     if find::find_nul(text).is_some() {

@@ -2,7 +2,7 @@
 -- Assumes nothing.
 use Prim.Native.Nat.{ℕ, zero, suc, ◌+◌, ◌-◌, ◌≤◌, ◌<◌}
 use mathlib.Core.Bool.{Bool, true, false, cond, ◌&&◌, and-true, and-false}
-use mathlib.Core.List.{List, []}
+use mathlib.Core.List.{List, [], ◌∷◌}
 use mathlib.Core.Path.{◌≡◌, refl, sym, ap, ap₂, ◌∙◌}
 use native.Mathlib.Decide.{dec_le}
 use native.Mathlib.Nat.{zero-add}
@@ -22,7 +22,7 @@ use Rattle.line_reader.proofs.FieldLaws.{field-none, field-first, field_next, co
 
 -- a part ends within the line
 part-most : (s : List ℕ) (at : ℕ) → at ≤ length s → part_end s at ≤ length s
-part-most s at h = omega (arith, until-least (is_any tab tab tab) (drop at s), length-drop at s)
+part-most s at h = omega (arith, until-least (is_any (tab ∷ [])) (drop at s), length-drop at s)
 
 next-most : (s : List ℕ) (end : ℕ) → end ≤ length s → next_end s end ≤ length s
 next-most s end h = go (ltb end (length s)) refl

@@ -16,7 +16,7 @@ use Rattle.sheet.proofs.PartsFound.{last-part, next-part}
 
 -- ---- the fields from a place on, with the end of the part there
 
-module _ (s : List ℕ) (at end : ℕ) (is : end ≡ at + until (is_any tab tab tab) (drop at s)) where
+module _ (s : List ℕ) (at end : ℕ) (is : end ≡ at + until (is_any (tab ∷ [])) (drop at s)) where
   pub field-none : end ≡ length s → (k : ℕ) → get_or (split tab (drop at s)).rest k [] ≡ []
   field-none e k = rw (last-part tab s at end is e)
 

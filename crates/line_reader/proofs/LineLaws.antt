@@ -184,7 +184,7 @@ module _ (q : Refusal) (previous : Option Tag) (t : Tag) (fs : List (List ℕ)) 
             (made ruled : Bool) →
             cond (made && ruled) (Some (sizes_said t fs)) None ≡ None →
             line_told (check (made && true && ruled) q (λ _. then (check_all (texts_of (said_by t fs))) (λ _. Ok (said_by t fs)))) ≡ Err q
-        go true true e = let z : ◌≡◌ {A = ℕ} 0 1 = cc in absurd (omega arith)
+        go true true e = absurd cc
         go true false e = refl
         go false ruled e = refl
 
@@ -210,5 +210,5 @@ module _ (q : Refusal) (previous : Option Tag) (t : Tag) (fs : List (List ℕ)) 
         go true m true f =
             let is : sizes_said t fs ≡ s = cc in
             ended (check_all (texts_of (said_by t fs))) ∙ ap₂ (λ (s : LineSizes) (c : Checked (Unit {0})). taking (λ _. s) c) is (sym (h.texts-are m) ∙ d)
-        go true m false f = let z : ◌≡◌ {A = ℕ} 0 1 = cc in absurd (omega arith)
-        go false m ruled f = let z : ◌≡◌ {A = ℕ} 0 1 = cc in absurd (omega arith)
+        go true m false f = absurd cc
+        go false m ruled f = absurd cc

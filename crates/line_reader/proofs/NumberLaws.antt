@@ -2,12 +2,13 @@
 -- Assumes nothing.
 use Rattle.std.specs.Prelude.{None, Some}
 use Prim.Native.Nat.{ℕ, ◌+◌, ◌-◌, ◌*◌, ◌^◌, ◌≤◌, ◌<◌}
-use mathlib.Core.Bool.{true, false, and-true, and-false}
+use mathlib.Core.Bool.{Bool, true, false, and-true, and-false}
 use mathlib.Core.List.{List, [], ◌∷◌}
 use mathlib.Core.Path.{◌≡◌, refl}
 use native.Mathlib.Numerals.{add-one}
 use native.Mathlib.Omega.{arith}
-use borrow.Author.Tests.{lt-ltb, le-ltb}
+use borrow.Author.Tests.{lt-ltb, le-ltb, lt-leb, ltb-false}
+use lib.Dec.{ltb}
 use lib.ListN.{length, get_or, drop}
 use lib.Seq.{drop-cons}
 use Rattle.sheet.specs.Fields.{all, is_digit, spelt, is_decimal, is_number}
@@ -44,15 +45,20 @@ unfolding is_number is_decimal
 number-none [] e = refl
 number-none (d ∷ f) e = absurd (omega arith)
 
--- a 0, or what is less, before others
-pub number-led : (f : List ℕ) → 1 < length f → get_or f 0 0 ≤ 48 → number_told f ≡ None
+-- a 0 before others
+pub number-led : (f : List ℕ) → 1 < length f → get_or f 0 0 ≡ 48 → number_told f ≡ None
 unfolding is_number is_decimal
-number-led [] h l = absurd (omega arith)
-number-led (d ∷ []) h l = absurd (omega arith)
-number-led (d ∷ e ∷ f) h l = rw (le-ltb 48 d l)
+number-led [] h e = absurd (omega arith)
+number-led (d ∷ []) h e = absurd (omega arith)
+number-led (d ∷ c ∷ f) h e = rw (le-ltb 48 d (omega arith))
 
-pub number-spelt : (f : List ℕ) → 0 < length f → (1 < length f → 48 < get_or f 0 0) → number_told f ≡ spelt_told 0 f
+pub number-spelt : (f : List ℕ) → 0 < length f → (1 < length f → get_or f 0 0 ≡ 48 → ⊥) → number_told f ≡ spelt_told 0 f
 unfolding is_number is_decimal all
-number-spelt [] h l = absurd (omega arith)
-number-spelt (d ∷ []) h l = rw and-true
-number-spelt (d ∷ e ∷ f) h l = rw (lt-ltb 48 d (l (omega arith)))
+number-spelt [] h n = absurd (omega arith)
+number-spelt (d ∷ []) h n = rw and-true
+number-spelt (d ∷ c ∷ f) h n = go (ltb 48 d) refl
+  where
+    go : (more : Bool) → ltb 48 d ≡ more → number_told (d ∷ c ∷ f) ≡ spelt_told 0 (d ∷ c ∷ f)
+    go true e = rw e
+    -- what is less than a 0 is no digit
+    go false e = rw (e, lt-leb 48 d (let l : d < 48 = omega (arith, ltb-false 48 d e, n (omega arith)) in l))

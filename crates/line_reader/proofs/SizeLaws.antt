@@ -2,18 +2,19 @@
 -- Assumes nothing.
 use Rattle.std.specs.Prelude.{None, Some}
 use Rattle.std.specs.Bool.{then_some}
-use Prim.Native.Nat.{ℕ, zero, suc, ◌+◌, ◌-◌, ◌/◌, ◌%◌, ◌≤◌, ◌<◌}
+use Prim.Native.Nat.{ℕ, zero, suc, ◌+◌, ◌/◌, ◌%◌, ◌≤◌, ◌<◌}
 use mathlib.Core.Bool.{Bool, true, false, ◌&&◌, and-true}
 use mathlib.Core.List.{List, [], ◌∷◌}
-use mathlib.Core.Path.{◌≡◌, refl, sym, ap, ◌∙◌}
+use mathlib.Core.Path.{◌≡◌, refl, sym, ◌∙◌}
 use native.Mathlib.Nat.{add-zero}
 use native.Mathlib.Numerals.{add-one}
 use native.Mathlib.Omega.{arith}
 use borrow.Author.Tests.{ne_eqb}
 use lib.Dec.{eqb}
-use lib.ListN.{length, get_or, take, drop, length-drop, drop_of_length-le}
-use lib.Seq.{drop-cons, take_all}
+use lib.ListN.{length, get_or, drop, drop_of_length-le}
+use lib.Seq.{drop-cons}
 use Rattle.find.specs.Find.{until, is_any}
+use Rattle.find.proofs.Rest.{from, from-is}
 use Rattle.find.proofs.FindLaws.{any-one, until-found, until-more, until-step, until-least}
 use Rattle.sheet.specs.Fields.{backslash, all, is_hex_digit, is_hex_pairs, bytes_of_pairs, is_escape, is_escaped, unescape}
 use Rattle.sheet.proofs.Escapes.{plain-is, plain-means, escape-is, escape-means}
@@ -69,7 +70,7 @@ bytes-sized good f i h e =
 -- ---- a text
 
 abbrev slash : ℕ → Bool
-slash b = is_any 92 92 92 b
+slash = is_any (backslash ∷ [])
 
 -- bytes before the first backslash stand for themselves
 text-run : (n m : ℕ) (s : List ℕ) → m ≤ until slash s → text_told n s ≡ text_told (n + m) (drop m s)
@@ -87,16 +88,6 @@ text-run n (suc m) (b ∷ s) h = go (eqb b backslash) refl (text-run (n + 1) m s
         let one : n + suc (length (unescape s)) ≡ n + 1 + length (unescape s) = omega arith in
         let all : n + 1 + m ≡ n + suc m = omega arith in
         rw (plain-is b s e, plain-means b s e, one, ← all) (more (omega (arith, until-more slash b s (any-one 92 b ∙ e))))
-
--- the bytes from an index on, as a slice has them
-abbrev pub from : ℕ → List ℕ → List ℕ
-from n s = take (length s - n) (drop n s)
-
-from-is : (n : ℕ) (s : List ℕ) → from n s ≡ drop n s
-from-is n s = take_all (length s - n) (drop n s) (omega (arith, length-drop n s))
-
-pub length-from : (n : ℕ) (s : List ℕ) → length (from n s) ≡ length s - n
-length-from n s = ap length (from-is n s) ∙ length-drop n s
 
 -- a run whose first byte stands for itself, up to the next backslash
 pub text-plain :
@@ -121,7 +112,7 @@ pub text-escape :
     is_escape (get_or (from 1 s) 0 0) ≡ true →
     (2 ≤ length s) × (text_told n s ≡ text_told (n + 1) (from 1 (from 1 s)))
 text-escape n [] h is e = absurd (omega arith)
-text-escape n (a ∷ []) h is e = let z : ◌≡◌ {A = ℕ} 0 1 = cc in absurd (omega arith)
+text-escape n (a ∷ []) h is e = absurd cc
 text-escape n (a ∷ b ∷ s) h is e =
     let own : is_escape b ≡ true = rw from-is at e in
     let one : n + suc (length (unescape s)) ≡ n + 1 + length (unescape s) = omega arith in

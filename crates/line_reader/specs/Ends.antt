@@ -1,11 +1,11 @@
 -- Where the parts of a line end; only the code goes this way.
-use Rattle.std.specs.Prelude.{ℕ, zero, suc, ◌+◌, cond, List, ltb, length, drop}
+use Rattle.std.specs.Prelude.{ℕ, zero, suc, ◌+◌, cond, List, [], ◌∷◌, ltb, length, drop}
 use Rattle.find.specs.Find.{until, is_any}
 use Rattle.sheet.specs.Fields.{tab}
 
 -- the end of the part at a place: the next tab, or the line's end
 abbrev pub part_end : List ℕ → ℕ → ℕ
-part_end line at = at + until (is_any tab tab tab) (drop at line)
+part_end line at = at + until (is_any (tab ∷ [])) (drop at line)
 
 -- the end of the part after one that ends at a place; that place where none follows
 abbrev pub next_end : List ℕ → ℕ → ℕ

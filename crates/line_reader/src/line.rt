@@ -10,7 +10,7 @@ use crate::bytes::bytes_size;
 use crate::number::read_number;
 use crate::split_line::SplitLine;
 use crate::text::text_size;
-use layout::{Refusal, check_whole};
+use layout::{Refusal, SourceInfoSectionType, check_whole};
 use table::Tag;
 
 // What a line holds: its tag, and how many bytes its bytes or texts have; 0 where there are none. Two numbers and no enum:
@@ -27,9 +27,7 @@ pub fn check_line(line: &[u8], previous: Option<Tag>, number: u32) -> Result<Lin
     ensures { result ≡ line_told (read_line (BadLine number) previous line.now) }
 {
     let line = SplitLine::new(line);
-    let Some(tag) = line.tag() else {
-        return Err(Refusal::BadLine(number));
-    };
+    let tag = line.tag().ok_or(Refusal::BadLine(number))?;
     if !is_placed(previous, tag) {
         return Err(Refusal::BadLine(number));
     }
@@ -42,11 +40,10 @@ pub fn check_line(line: &[u8], previous: Option<Tag>, number: u32) -> Result<Lin
 }
 
 // Whether a line of a tag may stand after one of the previous tag.
-#[tactic(auto, using(table::proofs::Tags::same_tags))]
 fn is_placed(previous: Option<Tag>, tag: Tag) -> bool
     ensures { result ≡ is_placed previous tag }
 {
-    tag.begins_section() | (previous.and_then(Tag::entry_tag) == Some(tag))
+    tag.begins_section() | tag.follows(previous)
 }
 
 // How many fields a line of a tag has.
@@ -86,8 +83,7 @@ fn measure(line: &SplitLine<'_>, tag: Tag) -> Option<LineSizes>
         Tag::Unknown => {
             let kind = read_number(line.field(0))?;
             let size = bytes_size(line.field(1))?;
-            let ruled = (3 <= kind) & (kind <= 65535) & (size % 4 == 0);
-            ruled.then_some((size, 0))?
+            SourceInfoSectionType::may_be_unknown(kind, size).then_some((size, 0))?
         }
         Tag::Content => (text_size(line.field(0))?, 0),
         Tag::Name => {

@@ -6,13 +6,15 @@ ghost use Rattle.line_reader.specs.Ends.{end_from};
 
 use crate::word::tag_of_word;
 use find::find_from;
+use sheet::TAB;
 use table::Tag;
 
 #[derive(Clone, Copy)]
 pub struct SplitLine<'a> {
     pub line: &'a [u8],
-    // Where the word ends and each of the first four fields, which a line that is right has no more of: at a tab, or at the
-    // line's end, where a field that is not there ends too.
+    // Where the word and the first four fields end: each at its tab, or at the line's end, as those do that it lacks. A line
+    // that is right has no more than four.
+    // Places: tried as four slices, which is twice as large, and a sheet of short lines takes 5 to 13 % longer.
     ends: [usize; 5],
     ghost ends_are: { (k : ℕ) → k < 5 → get_or ends k 0 ≡ end_from line.now 0 k },
 }
@@ -26,7 +28,7 @@ impl<'a> SplitLine<'a> {
         let mut ends = [line.len(); 5];
         let mut start = 0;
         for end in ends.iter_mut() {
-            *end = find_from(line, b'\t', start);
+            *end = find_from(line, TAB, start);
             if *end == line.len() {
                 break;
             }
@@ -48,8 +50,11 @@ impl<'a> SplitLine<'a> {
         if index >= 4 {
             return self.later_field(index);
         }
-        let start = self.ends[index] + 1;
-        self.line.get(start..self.ends[index + 1]).unwrap_or(&[])
+        let end = self.ends[index];
+        if end == self.line.len() {
+            return &[];
+        }
+        &self.line[end + 1..self.ends[index + 1]]
     }
 
     // The same of a field past the first four, which no line of a sheet has: it is looked for.
@@ -62,12 +67,12 @@ impl<'a> SplitLine<'a> {
             if end == self.line.len() {
                 return &[];
             }
-            end = find_from(self.line, b'\t', end + 1);
+            end = find_from(self.line, TAB, end + 1);
         }
         if end == self.line.len() {
             return &[];
         }
-        &self.line[end + 1..find_from(self.line, b'\t', end + 1)]
+        &self.line[end + 1..find_from(self.line, TAB, end + 1)]
     }
 
     // Whether the line has so many fields.

@@ -4,8 +4,7 @@ ghost use Rattle.sheet.specs.Fields.{is_escape};
 ghost use Rattle.line_reader.specs.Sizes.{text_told};
 
 use find::find_any;
-
-const BACKSLASH: u8 = b'\\';
+use sheet::BACKSLASH;
 
 // How many bytes a text has with its escapes resolved. Bytes that stand for themselves are counted in runs, up to the next
 // backslash.
@@ -22,7 +21,7 @@ pub fn text_size(field: &[u8]) -> Option<usize>
             size += 1;
             rest = &after[1..];
         } else {
-            let run = find_any(rest, BACKSLASH, BACKSLASH, BACKSLASH);
+            let run = find_any(rest, &[BACKSLASH]);
             size += run;
             rest = &rest[run..];
         }

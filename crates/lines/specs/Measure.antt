@@ -1,18 +1,18 @@
 -- Measuring, line by line: each line is checked, and then counted. It is how the pass goes; that it comes to the length of a sheet's payload is a theorem
 -- (proofs/Measured.antt).
-use Rattle.std.specs.Prelude.{ℕ, ◌+◌, List, [], ◌∷◌, eqb, length, drop}
-use Rattle.find.specs.Find.{until, is_any}
+use Rattle.std.specs.Prelude.{ℕ, ◌+◌, ◌≡◌, ◌<◌, List, [], ◌∷◌, eqb, length}
 use Rattle.layout.specs.Checked.{Checked, check, then}
 use Rattle.format.specs.Records.{text}
 use Rattle.sheet.specs.Fields.{newline}
 use Rattle.sheet.specs.FromSheet.{bad_line}
-use Rattle.sheet.specs.Lines.{read_line}
+use Rattle.sheet.specs.Lines.{parts, split, read_line}
 use Rattle.sizes.specs.Measure.{advance, finish}
 use Rattle.sizes.specs.declared.sizes.Sizes.{Sizes}
 
--- where the line at a place ends
-abbrev pub line_end : List ℕ → ℕ → ℕ
-line_end s at = at + until (is_any newline newline newline) (drop at s)
+-- a first line, and what follows its newline
+pub record IsFirst (s line after : List ℕ) : Type 0 where
+  pub is : split newline s ≡ parts line ((split newline after).first ∷ (split newline after).rest)
+  pub shorter : length after < length s
 
 -- lines from a number on
 unfoldable pub measure_lines : ℕ → Sizes → List ℕ → List (List ℕ) → Checked ℕ

@@ -11,7 +11,7 @@ mod source_info;
 ghost use Rattle.std.specs.Prelude.{◌≡◌, length};
 ghost use Rattle.format.specs.Listing.{list_answer, list_output};
 
-use crate::source_info::Listing;
+pub use crate::source_info::Listing;
 use layout::Answer;
 
 // Lists a payload to a lent output, whole, or refuses it and leaves the output as it was.

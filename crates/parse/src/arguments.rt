@@ -1,5 +1,5 @@
 // Argument sections: names and values, each ended by a NUL.
-ghost use Rattle.std.specs.Prelude.{◌≡◌, ℕ, ◌+◌, ◌≤◌, ◌<◌, get_or};
+ghost use Rattle.std.specs.Prelude.{◌≡◌, ℕ, ◌≤◌, ◌<◌, get_or};
 ghost use Rattle.format.specs.Parse.{pair_text, pair, pairs, parse_arguments, after_pair};
 ghost use Rattle.parse.specs.Outcome.{maybe_text, place_of, counted};
 
@@ -11,20 +11,18 @@ use wire::TextLength;
 
 const START: usize = SourceInfoSectionType::ARGS_START;
 
-const HEADERS: u32 = START as u32;
-
 // How many bytes are looked at one by one before a text counts as long.
 const NEAR: usize = 64;
 
-// The end of the run, from a place on, of bytes that are ASCII and no NUL; in a long run a place inside.
+// The end of the run, from a place on, of plain bytes; in a long run a place inside.
 fn plain_end(part: Part, at: usize) -> usize
     requires { at ≤ part.end }
     ensures bounds { (at ≤ result) × (result ≤ part.entry.end) }
-    ensures by_index { (k : ℕ) → k < result → at ≤ k → (0 < get_or part.entry.payload.now k 0) × (get_or part.entry.payload.now k 0 < 0x80) }
+    ensures plain { (k : ℕ) → k < result → at ≤ k → (0 < get_or part.entry.payload.now k 0) × (get_or part.entry.payload.now k 0 < 0x80) }
 {
     let near = part.end.min(at + NEAR);
     let run = &part.payload[at..near];
-    let plain = run.iter().position(|byte| *byte == 0 || *byte >= 0x80);
+    let plain = run.iter().position(|byte| !utf8::is_plain(*byte));
     at + plain.unwrap_or(run.len())
 }
 
@@ -35,9 +33,7 @@ fn check_any_pair_text(part: Part, at: usize) -> Result<TextLength, Refusal>
     requires { at ≤ part.end }
     ensures { result ≡ maybe_text (pair_text part.entry.payload.now at part.entry.end) }
 {
-    let Some(count) = find::find_nul(&part.payload[at..part.end]) else {
-        return Err(Refusal::OpenText);
-    };
+    let count = find::find_nul(&part.payload[at..part.end]).ok_or(Refusal::OpenText)?;
     let stop = at + count;
     validate::validate(&part.payload[at..stop])?;
     Ok(TextLength(count as u32))
@@ -51,10 +47,8 @@ fn check_pair_text(part: Part, at: usize) -> Result<TextLength, Refusal>
     ensures { result ≡ maybe_text (pair_text part.entry.payload.now at part.entry.end) }
 {
     let stop = plain_end(part, at);
-    if stop < part.end {
-        if part.payload[stop] == 0 {
-            return Ok(TextLength((stop - at) as u32));
-        }
+    if stop < part.end && part.payload[stop] == 0 {
+        return Ok(TextLength((stop - at) as u32));
     }
     check_any_pair_text(part, at)
 }
@@ -92,7 +86,7 @@ pub fn parse_arguments(section: SectionPart) -> Result<u32, Refusal>
         return Err(Refusal::Flag);
     }
     let bytes = wire::read_u32(payload, at + 12);
-    check_framed(section, HEADERS, bytes)?;
+    check_framed(section, START as u32, bytes)?;
     let start = at + START;
     let end = start + bytes as usize;
     let count = wire::read_u32(payload, at + 16);

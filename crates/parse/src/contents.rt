@@ -7,13 +7,9 @@ ghost use Rattle.parse.specs.Outcome.{counted};
 use crate::entries::check_entries;
 use crate::framing::check_framed;
 use crate::part::{Part, SectionPart};
-use layout::{Refusal, SourceCompression, SourceInfoSectionType};
+use layout::{EntryKind, Refusal, SourceCompression, SourceInfoSectionType};
 
 const START: usize = SourceInfoSectionType::CONTENTS_START;
-
-const HEADERS: u32 = START as u32;
-
-const ENTRY_HEADER: u32 = SourceInfoSectionType::CONTENT_ENTRY_HEADER_SIZE as u32;
 
 // What a contents section at a place stores, by its compression. A packed stream is not looked into.
 #[tactic(auto, unfolding(format::specs::Parse::parse_stored, layout::specs::Checked::check, layout::specs::Checked::then))]
@@ -36,7 +32,7 @@ fn check_stored(
     let start = at + START;
     let end = start + bytes as usize;
     let count = wire::read_u32(payload, at + 24);
-    let entries = check_entries(Part { payload, end }, ENTRY_HEADER, count, start)?;
+    let entries = check_entries(Part { payload, end }, EntryKind::Content, count, start)?;
     Ok(1 + entries)
 }
 
@@ -53,10 +49,8 @@ pub fn parse_contents(section: SectionPart) -> Result<u32, Refusal>
         return Err(Refusal::Flag);
     }
     let number = wire::read_u16(payload, at + 14);
-    let Some(compression) = SourceCompression::from_u16(number) else {
-        return Err(Refusal::Compression);
-    };
+    let compression = SourceCompression::from_u16(number).ok_or(Refusal::Compression)?;
     let bytes = wire::read_u32(payload, at + 16);
-    check_framed(section, HEADERS, bytes)?;
+    check_framed(section, START as u32, bytes)?;
     check_stored(section, compression, bytes)
 }

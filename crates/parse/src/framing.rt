@@ -2,6 +2,7 @@
 ghost use Rattle.std.specs.Prelude.{◌≡◌};
 ghost use Rattle.format.specs.Parse.{framed};
 
+use crate::padding::check_zeros;
 use crate::part::SectionPart;
 use layout::Refusal;
 
@@ -16,9 +17,5 @@ pub fn check_framed(section: SectionPart, headers: u32, bytes: u32) -> Result<()
     }
     let end = at + headers as usize + bytes as usize;
     let next = at + size;
-    if wire::zeros(&payload[end..next]) {
-        Ok(())
-    } else {
-        Err(Refusal::Padding)
-    }
+    check_zeros(&payload[end..next])
 }

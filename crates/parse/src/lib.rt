@@ -10,6 +10,7 @@ mod contents;
 mod entries;
 mod framing;
 mod names;
+mod padding;
 mod part;
 mod run;
 mod source_info;

@@ -6,13 +6,9 @@ ghost use Rattle.parse.specs.Outcome.{counted};
 use crate::entries::check_entries;
 use crate::framing::check_framed;
 use crate::part::{Part, SectionPart};
-use layout::{Refusal, SourceInfoSectionType};
+use layout::{EntryKind, Refusal, SourceInfoSectionType};
 
 const START: usize = SourceInfoSectionType::NAMES_START;
-
-const HEADERS: u32 = START as u32;
-
-const ENTRY_HEADER: u32 = SourceInfoSectionType::NAME_ENTRY_HEADER_SIZE as u32;
 
 // A names section.
 #[tactic(auto, unfolding(format::specs::Parse::parse_names, layout::specs::Checked::check, layout::specs::Checked::then))]
@@ -27,10 +23,10 @@ pub fn parse_names(section: SectionPart) -> Result<u32, Refusal>
         return Err(Refusal::Flag);
     }
     let bytes = wire::read_u16(payload, at + 16);
-    check_framed(section, HEADERS, bytes as u32)?;
+    check_framed(section, START as u32, bytes as u32)?;
     let start = at + START;
     let end = start + bytes as usize;
     let count = wire::read_u32(payload, at + 12);
-    let entries = check_entries(Part { payload, end }, ENTRY_HEADER, count, start)?;
+    let entries = check_entries(Part { payload, end }, EntryKind::Name, count, start)?;
     Ok(1 + entries)
 }

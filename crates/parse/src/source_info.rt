@@ -1,5 +1,5 @@
 // A whole payload: its main header, and its sections in order.
-ghost use Rattle.std.specs.Prelude.{◌≡◌, ◌+◌, ◌≤◌, length};
+ghost use Rattle.std.specs.Prelude.{◌≡◌, ◌≤◌, length};
 ghost use Rattle.format.specs.Encoding.{limit};
 ghost use Rattle.format.specs.Parse.{parse_section, parse_sections, parse};
 ghost use Rattle.parse.specs.Outcome.{counted};
@@ -28,7 +28,7 @@ fn parse_section(kind: SourceInfoSectionType, section: SectionPart) -> Result<u3
 // payload whose length was tested needs no test of its own.
 #[inline(always)]
 fn parse_sections(payload: &[u8], count: u16) -> Result<u32, Refusal>
-    requires in_bounds { 8 ≤ length payload.now }
+    requires header_in_bounds { 8 ≤ length payload.now }
     requires payload_len_bound { length payload.now ≤ limit }
     ensures { result ≡ counted (parse_sections count payload.now 8) }
 {

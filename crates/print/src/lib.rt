@@ -9,9 +9,12 @@ ghost use Rattle.std.specs.Prelude.{◌++◌, ◌≡◌, ◌≤◌, ◌<◌, IfO
 ghost use Rattle.std.specs.Io.KnownBytes.{Consumes, IsAtEnd};
 ghost use Rattle.std.proofs.lemmas.List.Edits.{sets};
 ghost use Rattle.format.specs.Card.{card_printed};
-ghost use Rattle.format.specs.Print.{longer_line, list_printed, told_length, told};
+ghost use Rattle.format.specs.Print.{longer_line, list_printed, printed, told_length, told};
 
+use card::Card;
+use job::Job;
 use layout::Answer;
+use listing::Listing;
 use std::io;
 use std::io::Read;
 
@@ -20,7 +23,7 @@ pub const MOST: usize = 65536;
 
 // The line of an input that is longer than a program reads. Answers its length.
 #[tactic(auto, unfolding(format::specs::Display::ascii))]
-fn print_longer(output: &mut [u8]) -> usize
+fn write_longer(output: &mut [u8]) -> usize
     ensures value { result ≡ length longer_line }
     ensures output_after { output.new ≡ sets output.old 0 longer_line }
 {
@@ -31,7 +34,7 @@ fn print_longer(output: &mut [u8]) -> usize
 
 // What is printed of an answer, over what its call left. Answers how many bytes that is.
 #[tactic(auto, unfolding(format::specs::Print::told, format::specs::Print::told_length))]
-fn print_answer(answer: Answer, output: &mut [u8]) -> usize
+fn write_answer(answer: Answer, output: &mut [u8]) -> usize
     ensures value { result ≡ told_length answer }
     ensures output_after { output.new ≡ told answer output.old }
 {
@@ -41,29 +44,33 @@ fn print_answer(answer: Answer, output: &mut [u8]) -> usize
     }
 }
 
-// Stores what list_payload prints that read these bytes, and answers how many bytes that is. An input that is longer
-// than the program reads may be cut off after one byte more.
-pub fn print_listing(input: &[u8], output: &mut [u8; 65536]) -> usize
+// Stores what is printed of a job over these bytes, and answers how many bytes that is. An input that is longer than a
+// program reads may be cut off after one byte more.
+fn write_printed<J: Job>(input: &[u8], output: &mut [u8; MOST]) -> usize
+    ensures value { result ≡ length (printed J.made input.now) }
+    ensures output_after { output.new ≡ printed J.made input.now ++ drop (length (printed J.made input.now)) output.old }
+{
+    if MOST < input.len() {
+        return write_longer(output);
+    }
+    let answer = job::run::<J>(input, output);
+    write_answer(answer, output)
+}
+
+// What list_payload prints.
+pub fn write_listing(input: &[u8], output: &mut [u8; MOST]) -> usize
     ensures value { result ≡ length (list_printed input.now) }
     ensures output_after { output.new ≡ list_printed input.now ++ drop (length (list_printed input.now)) output.old }
 {
-    if MOST < input.len() {
-        return print_longer(output);
-    }
-    let answer = listing::list(input, output);
-    print_answer(answer, output)
+    write_printed::<Listing>(input, output)
 }
 
-// The same of show_card. One function over the job would take the job's definition beside its code, and be longer.
-pub fn print_card(input: &[u8], output: &mut [u8; 65536]) -> usize
+// What show_card prints.
+pub fn write_card(input: &[u8], output: &mut [u8; MOST]) -> usize
     ensures value { result ≡ length (card_printed input.now) }
     ensures output_after { output.new ≡ card_printed input.now ++ drop (length (card_printed input.now)) output.old }
 {
-    if MOST < input.len() {
-        return print_longer(output);
-    }
-    let answer = card::card(input, output);
-    print_answer(answer, output)
+    write_printed::<Card>(input, output)
 }
 
 // Reads until the input ends or the buffer is full, and answers how many bytes were read. The library's methods that
@@ -71,7 +78,7 @@ pub fn print_card(input: &[u8], output: &mut [u8; 65536]) -> usize
 pub fn read_full<R: Read>(input: &mut R, buffer: &mut [u8]) -> io::Result<usize>
     ensures bound { IfOk result (λ n. n ≤ length buffer.new) }
     ensures bytes { IfOk result (λ n. Consumes (R.remaining input.old) (R.remaining input.new) (take n buffer.new)) }
-    ensures full { IfOk result (λ n. n < length buffer.new → IsAtEnd (R.remaining input.new)) }
+    ensures at_end { IfOk result (λ n. n < length buffer.new → IsAtEnd (R.remaining input.new)) }
 {
     let mut count = 0;
     while count < buffer.len() {

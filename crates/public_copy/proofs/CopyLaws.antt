@@ -6,18 +6,20 @@ use mathlib.Core.List.{List, [], ◌∷◌, flat_map, append-nil}
 use mathlib.Core.Path.{◌≡◌, refl, sym, ap, ◌∙◌}
 use native.Mathlib.Omega.{arith}
 use lib.ListN.{length, length-append}
-use Rattle.wire.specs.Number.{u16_at}
+use Rattle.wire.specs.Number.{u16_at, u32_at}
 use Rattle.wire.proofs.NumberLaws.{length-bytes_of}
 use Rattle.layout.specs.Checked.{Checked}
 use Rattle.layout.proofs.Checked.{is-good}
 use Rattle.layout.specs.Kinds.{known}
 use Rattle.layout.specs.declared.section_type.SourceInfoSectionType.{SourceInfoSectionType}
 use Rattle.layout.specs.declared.section_type.SourceInfoSectionType.TheVariants.{SourceContents, SourceNames, Arguments, Unknown}
-use Rattle.format.specs.CopyWalk.{section_copy, copy_of, copy_at, copy}
+use Rattle.layout.specs.declared.compression.SourceCompression.{SourceCompression}
+use Rattle.layout.specs.Spans.{part}
+use Rattle.format.specs.CopyWalk.{contents_copy, names_copy, section_copy, copy_of, copy_at, copy}
 use Rattle.format.specs.Encoding.{limit}
 use Rattle.format.specs.Parse.{parse}
 use Rattle.format.specs.Read.{accepted}
-use Rattle.format.specs.Walk.{places_from, places}
+use Rattle.format.specs.Walk.{compression_at, places_from, places}
 use Rattle.format.specs.WellFormed.{Bytes}
 use Rattle.format.proofs.Measured.{copy-by-walk}
 use Rattle.format.proofs.Secrecy.{copy-is-public}
@@ -35,9 +37,30 @@ copy-known p Arguments at = refl
 copy-known p (Unknown kind) at = refl
 
 -- a section alone
-pub joined-one : (section : List ℕ) → joined (section ∷ []) ≡ section
+joined-one : (section : List ℕ) → joined (section ∷ []) ≡ section
 unfolding flat_map
 joined-one section = append-nil section
+
+-- what is left of a section, by what it holds
+module _ (p : List ℕ) (kind : SourceInfoSectionType) (at : ℕ) where
+  abbrev left : List ℕ
+  left = joined (section_copy p kind at)
+
+  pub contents-left : (c : SourceCompression) (count : ℕ) → kind ≡ SourceContents → compression_at p at ≡ c → count ≡ u32_at p (at + 24) → left ≡ contents_copy c count
+  unfolding section_copy
+  contents-left c count is stored many = rw (is, stored, many) (joined-one (contents_copy c (u32_at p (at + 24))))
+
+  pub names-left : kind ≡ SourceNames → left ≡ names_copy p at
+  unfolding section_copy
+  names-left is = rw is (joined-one (names_copy p at))
+
+  pub arguments-left : kind ≡ Arguments → left ≡ part p at (u32_at p at)
+  unfolding section_copy
+  arguments-left is = rw is (joined-one (part p at (u32_at p at)))
+
+  pub unknown-left : (number : ℕ) → kind ≡ Unknown number → left ≡ []
+  unfolding section_copy flat_map
+  unknown-left number is = rw is refl
 
 -- sections, and the main header before them
 pub copy-long : (sections : List (List ℕ)) → length (copy_of sections) ≡ 8 + length (joined sections)

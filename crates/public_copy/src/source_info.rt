@@ -11,10 +11,10 @@ ghost use Rattle.section_reader.specs.Sections.{sections};
 ghost use Rattle.public_copy.specs.Joined.{joined, copied};
 
 use crate::contents::write_contents;
-use crate::names::copy_names;
+use crate::names::{copy_bytes, hide_sizes};
 use job::Job;
 use layout::SourceInfoSectionType;
-use section_reader::{CheckedSection, Payload, Sections, known_sections};
+use section_reader::{Body, CheckedSection, Payload, Sections, known_sections};
 
 // What is left of a section. Answers the place after it.
 fn copy_section(section: CheckedSection, output: &mut [u8], to: usize) -> usize
@@ -22,17 +22,17 @@ fn copy_section(section: CheckedSection, output: &mut [u8], to: usize) -> usize
     ensures value { result ≡ to + length (joined (section_copy section.entry.payload.now section.entry.kind section.entry.at)) }
     ensures output_after { output.new ≡ sets output.old to (joined (section_copy section.entry.payload.now section.entry.kind section.entry.at)) }
 {
-    match section.kind {
-        SourceInfoSectionType::SourceContents => {
+    match section.body() {
+        Body::Contents(_) | Body::Packed => {
             write_contents(output, to, section.compression(), section.content_count())
         }
-        SourceInfoSectionType::SourceNames => copy_names(section, output, to),
-        SourceInfoSectionType::Arguments => {
-            let size = section.size() as usize;
-            wire::write_bytes(output, to, &section.payload[section.at..section.at + size]);
-            to + size
+        Body::Names(names) => {
+            let end = copy_bytes(section, output, to);
+            hide_sizes(names, output, to + SourceInfoSectionType::NAMES_START);
+            end
         }
-        SourceInfoSectionType::Unknown(_) => to,
+        Body::Arguments(_) => copy_bytes(section, output, to),
+        Body::Unknown(_) => to,
     }
 }
 
@@ -61,9 +61,7 @@ impl Job for PublicCopy {
     fn write(payload: Payload, output: &mut [u8]) -> u32 {
         let sections = known_sections(payload);
         let size = copy_sections(payload, output) as u32;
-        wire::write_u32(output, 0, size);
-        wire::write_u16(output, 4, 0);
-        wire::write_u16(output, 6, sections);
+        frames::close_payload(output, size, sections);
         size
     }
 }

@@ -1,2 +1,2 @@
-pub mod StoreSteps
+pub mod Filling
 pub mod Stored

@@ -2,7 +2,7 @@
 -- Assumes nothing.
 use Prim.Native.Nat.{ℕ, ◌+◌, ◌*◌, ◌/◌, ◌≤◌}
 use mathlib.Core.List.{List, [], ◌∷◌, ◌++◌, flat_map, append_assoc, append-nil}
-use mathlib.Core.Path.{◌≡◌, ap, ◌∙◌}
+use mathlib.Core.Path.{◌≡◌, sym, ap, ◌∙◌}
 use native.Mathlib.Nat.{zero-add, add-zero}
 use native.Mathlib.Omega.{arith}
 use lib.ListN.{length, drop, length-append}
@@ -17,6 +17,16 @@ store_rows-append table index [] b = rw add-zero
 store_rows-append table index (r ∷ a) b =
     let next : index + 1 + length a ≡ index + length (r ∷ a) = omega arith in
     store_rows-append (store_row table index r) (index + 1) a b ∙ ap (λ (i : ℕ). store_rows (store_rows (store_row table index r) (index + 1) a) i b) next
+
+-- a row more
+pub row-stored :
+    (far : List Row) (before : List ℕ) (start : ℕ) (row : Row) {rows after : List ℕ} {index : ℕ} →
+    rows ≡ store_rows before start far →
+    index ≡ start + length far →
+    after ≡ store_row rows index row →
+    after ≡ store_rows before start (far ++ row ∷ [])
+unfolding store_rows
+row-stored far before start row stored there next = next ∙ rw (stored, there) (sym (store_rows-append before start far (row ∷ [])))
 
 -- rows stored after those that a table begins with
 store-on :

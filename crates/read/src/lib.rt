@@ -22,7 +22,7 @@ pub fn read(payload: &[u8], rows: &mut [u32]) -> Answer
     ensures rows_after { rows.new ≡ read_table payload.now rows.old }
 {
     let count = parse::parse_srci(payload)?;
-    if (rows.len() / Row::WIDTH) < count as usize {
+    if Row::count(rows) < count as usize {
         return Err(Refusal::NoRows(count));
     }
     let checked = Payload { bytes: payload };

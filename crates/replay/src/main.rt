@@ -43,6 +43,7 @@ use std::io::Write;
 use std::{fs, io};
 use table::Row;
 
+// Buffers are of fixed sizes, since the project has no heap.
 const NUMBERS: usize = 128;
 
 const BYTES: usize = 512;
@@ -142,14 +143,8 @@ fn stored(answer: Answer, most: usize) -> usize
     ensures { result ≤ most }
 {
     match answer {
-        Err(_) => 0,
-        Ok(count) => {
-            if (count as usize) <= most {
-                count as usize
-            } else {
-                0
-            }
-        }
+        Ok(count) if count as usize <= most => count as usize,
+        _ => 0,
     }
 }
 
@@ -193,15 +188,19 @@ fn replay_read<W: Write>(out: &mut W, fields: &[u8]) -> io::Result<()> {
     out.write_all(b"\n")
 }
 
+// How many bytes a call of writing is lent, and the digits of its payload, of its edit text and of its rows.
+fn split_write(fields: &[u8]) -> Option<(usize, &[u8], &[u8], &[u8])>
+    ensures { IfSome result (λ r. r.0 ≤ BYTES) }
+{
+    let (lent, fields) = split_lent(fields, BYTES)?;
+    let (payload, fields) = split_word(fields)?;
+    let (edit, rows) = split_word(fields)?;
+    Some((lent, payload, edit, rows))
+}
+
 // A call of writing. Anything else prints nothing.
 fn replay_write<W: Write>(out: &mut W, fields: &[u8]) -> io::Result<()> {
-    let Some((lent, fields)) = split_lent(fields, BYTES) else {
-        return Ok(());
-    };
-    let Some((payload_digits, fields)) = split_word(fields) else {
-        return Ok(());
-    };
-    let Some((edit_digits, row_digits)) = split_word(fields) else {
+    let Some((lent, payload_digits, edit_digits, row_digits)) = split_write(fields) else {
         return Ok(());
     };
     let mut payload = [0u8; BUFFER];

@@ -6,9 +6,9 @@ ghost use Rattle.sizes.specs.Measure.{sized, nothing};
 ghost use Rattle.rows.specs.Measure.{count_row, measure_from};
 
 use crate::rule::check_row;
-use layout::Refusal;
+use layout::{Refusal, Sides};
 use sizes::Sizes;
-use table::{Row, Tag};
+use table::{Row, TableRows, Tag};
 
 // Counts a row by its tag and the lengths of what it names.
 #[tactic(auto, unfolding(crate::specs::Measure::count_by))]
@@ -16,23 +16,27 @@ fn count_row(sizes: Sizes, row: Row) -> Sizes
     ensures { result ≡ count_row sizes row }
 {
     match Tag::from_u32(row.tag) {
-        Some(tag) if tag.begins_section() => sizes.advance(tag, row.c as usize, 0),
-        Some(tag) => sizes.advance(tag, row.b as usize, row.d as usize),
+        Some(tag) if tag.begins_section() => {
+            sizes.advance(tag, row.bytes_span().count as usize, 0)
+        }
+        Some(tag) => sizes.advance(
+            tag,
+            row.text_span().count as usize,
+            row.value_span().count as usize,
+        ),
         // a row of no tag was refused
         None => sizes,
     }
 }
 
-// Checks rows in order and counts each. A table's numbers past its last whole row are left out. By index, since a table
-// is numbers, and only `Row` knows how many make a row.
-#[tactic(auto, using(crate::proofs::Laws::row_steps))]
-fn measure_rows(payload: &[u8], edit: &[u8], rows: &[u32]) -> Result<u32, Refusal>
-    ensures { result ≡ measure_from payload.now edit.now nothing (rows_of rows.now) }
+// Checks rows in order and counts each.
+#[tactic(auto, unfolding(crate::specs::Measure::measure_from, layout::specs::Checked::then))]
+fn measure_rows(sides: Sides<'_>, rows: &[u32]) -> Result<u32, Refusal>
+    ensures { result ≡ measure_from sides.entry.payload.now sides.entry.edit.now nothing (rows_of rows.now) }
 {
     let mut sizes = Sizes::new();
-    for index in 0..rows.len() / Row::WIDTH {
-        let row = Row::load(rows, index);
-        check_row(payload, edit, sizes.previous, row)?;
+    for row in TableRows::new(rows) {
+        check_row(sides, sizes.previous, row)?;
         sizes = count_row(sizes, row);
     }
     sizes.finish()
@@ -40,11 +44,11 @@ fn measure_rows(payload: &[u8], edit: &[u8], rows: &[u32]) -> Result<u32, Refusa
 
 // The bytes that the rows of a table would be written as: how many, or the first fault.
 #[tactic(auto, using(crate::proofs::Measured::measured), unfolding(format::specs::Write::written_table, layout::specs::Checked::check))]
-pub fn measure(payload: &[u8], edit: &[u8], rows: &[u32]) -> Result<u32, Refusal>
-    ensures { result ≡ sized (written_table payload.now edit.now rows.now) }
+pub fn measure(sides: Sides<'_>, rows: &[u32]) -> Result<u32, Refusal>
+    ensures { result ≡ sized (written_table sides.entry.payload.now sides.entry.edit.now rows.now) }
 {
-    if rows.len() % Row::WIDTH != 0 {
+    if !Row::are_whole(rows) {
         return Err(Refusal::BadRow);
     }
-    measure_rows(payload, edit, rows)
+    measure_rows(sides, rows)
 }

@@ -1,3 +1,4 @@
 pub mod Accepted
 pub mod Taken
 pub mod Walked
+pub mod Entered

@@ -1,3 +1,4 @@
-pub mod Entry
+pub mod Body
+pub mod Entries
 pub mod Section
 pub mod Sections

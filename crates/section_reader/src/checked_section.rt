@@ -19,7 +19,8 @@ pub struct CheckedSection<'a> {
     pub ghost good: { is_ok (parse_section kind payload.now at (u32_at payload.now at)) ≡ true },
 }
 
-// Each number is read where a section of its kind has it.
+// Each number is read where a section of its kind has it. One method a number, under its name: one method of a place would
+// need the place, and what stands there, at each call.
 impl<'a> CheckedSection<'a> {
     // The bytes of the section, with its header.
     pub fn size(self) -> u32

@@ -7,7 +7,7 @@ ghost use Rattle.format.specs.WellFormed.{Bytes};
 #[derive(Clone, Copy)]
 pub struct Payload<'a> {
     pub bytes: &'a [u8],
-    pub ghost of_bytes: { Bytes bytes.now },
+    pub ghost are_bytes: { Bytes bytes.now },
     pub ghost accepted: { is_ok (parse bytes.now) ≡ true },
 }
 

@@ -5,7 +5,6 @@ use Prim.Native.Nat.{ℕ}
 use mathlib.Core.Bool.{Bool, true, false, cond, ◌&&◌, ◌||◌, and-eq-true_iff}
 use mathlib.Core.List.{List, [], ◌∷◌, ◌++◌, flat_map}
 use mathlib.Core.Path.{◌≡◌, refl, sym, ap, ap₂, subst, ◌∙◌}
-use native.Mathlib.Omega.{arith}
 use borrow.Author.Tests.{eqb-true}
 use lib.Dec.{eqb}
 use Rattle.sheet.specs.Fields.{tab, newline, backslash, escaped, escape, is_escape, meant, is_escaped, unescape}
@@ -98,7 +97,7 @@ meant-escaped c e = go (eqb c 92) (eqb c 116) (eqb c 110) refl refl refl e
     go x true z e f g h = rw (eqb-true c 116 f)
     go x false true e f g h = rw (eqb-true c 110 g)
     go true false false e f g h = rw (eqb-true c 92 e)
-    go false false false e f g h = let z : ◌≡◌ {A = ℕ} 0 1 = cc in absurd (omega arith)
+    go false false false e f g h = absurd cc
 
 itself-escaped : (b : ℕ) → eqb b backslash ≡ false → eqb b tab ≡ false → eqb b newline ≡ false → escaped b ≡ b ∷ []
 itself-escaped b e f g = rw (e, f, g)
@@ -115,7 +114,7 @@ field [] e = none
 field (b ∷ []) e = go (eqb b backslash) refl e
   where
     go : (is : Bool) → eqb b backslash ≡ is → elim is as (λ _. Bool) [ true ↦ false | false ↦ true ] ≡ true → Field (b ∷ [])
-    go true q h = let z : ◌≡◌ {A = ℕ} 0 1 = cc in absurd (omega arith)
+    go true q h = absurd cc
     go false q h = byte b q none
 field (b ∷ c ∷ f) e = go (eqb b backslash) refl e (field (c ∷ f)) (field f)
   where

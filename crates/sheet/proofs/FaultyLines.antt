@@ -22,9 +22,6 @@ use Rattle.sheet.specs.Lines.{Parts, parts, split}
 use Rattle.sheet.specs.Promises.{closed, last_tag, RefusedLine, FaultIsOfALine}
 use Rattle.sheet.proofs.Splitting.{Free, closed-split, split-free}
 
-pub never : {A : Type 0} {a : A} {r : Refusal} → ◌≡◌ {A = Checked A} (Ok a) (Err r) → ⊥
-never e = let z : ◌≡◌ {A = ℕ} 0 1 = cc in omega arith
-
 -- where two steps come to a fault, the first does, or the second after its value
 pub then-fault :
     {A B C : Type 0} (c : Checked A) (next : A → Checked B) (r : Refusal) →
@@ -39,7 +36,7 @@ then-fault (Ok a) next r e first second = second a refl e
 -- a last test that comes to a fault
 pub check-fault : {A : Type 0} (test : Bool) (refusal : Refusal) (a : A) (r : Refusal) → check test refusal (λ _. Ok a) ≡ Err r → (test ≡ false) × (r ≡ refusal)
 unfolding check
-check-fault true refusal a r e = absurd (never e)
+check-fault true refusal a r e = absurd cc
 check-fault false refusal a r e = (refl, cc)
 
 -- the parts of closed lines
@@ -94,7 +91,7 @@ find (next ∷ rest) n previous first refusal e free (k, ks) =
       read = rw (closed_parts_lem first h.before free) (then-passes _ _ this (then-passes _ _ h.read refl));
       own = subst (λ (number : ℕ). RefusedLine number (last_tag (Some r.tag) h.records) h.line h.after refusal) (omega arith) h.own;
     })
-    (λ rs f g. absurd (never g)))
+    (λ rs f g. absurd cc))
 
 pub fault-is-of-a-line : FaultIsOfALine
 unfolding sheet_records

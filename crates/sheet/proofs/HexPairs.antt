@@ -122,7 +122,7 @@ pairs-good (a ∷ b ∷ f) e =
 pairs-again : (f : List ℕ) → is_hex_pairs f ≡ true → hex_pairs (bytes_of_pairs f) ≡ f
 unfolding hex_pairs is_hex_pairs bytes_of_pairs flat_map
 pairs-again [] e = refl
-pairs-again (a ∷ []) e = let z : ◌≡◌ {A = ℕ} 0 1 = cc in absurd (omega arith)
+pairs-again (a ∷ []) e = absurd cc
 pairs-again (a ∷ b ∷ f) e =
     let (two, rest) = (and-eq-true_iff (is_hex_digit a && is_hex_digit b) (is_hex_pairs f)).0 e in
     let (x, y) = (and-eq-true_iff (is_hex_digit a) (is_hex_digit b)).0 two in

@@ -198,7 +198,7 @@ module _ (refusal : Refusal) (previous : Option Tag) (bytes : List ℕ) (r : Rec
   tested = go (tag_of_word p.first) refl e
     where
       go : (o : Option Tag) → tag_of_word p.first ≡ o → read_fields refusal previous o fs ≡ Ok r → Tested
-      go None q e = let z : ◌≡◌ {A = ℕ} 0 1 = cc in absurd (omega arith)
+      go None q e = absurd cc
       go (Some u) q e =
           let (tests, rest) = check-good _ _ _ _ e in
           let (done, plain, same) = then-good _ _ _ rest in

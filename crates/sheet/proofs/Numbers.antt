@@ -60,7 +60,7 @@ spelt-append n (d ∷ a) b = spelt-append (10 * n + (d - 48)) a b
 -- one more digit, after a number that is not 0
 decimal-next : (f : List ℕ) (d : ℕ) → is_decimal f ≡ true → 1 ≤ number_of f → is_digit d ≡ true → is_decimal (f ++ (d ∷ [])) ≡ true
 unfolding is_decimal spelt all
-decimal-next [] d e h is = let z : ◌≡◌ {A = ℕ} 0 1 = cc in absurd (omega arith)
+decimal-next [] d e h is = absurd cc
 decimal-next (c ∷ []) d e h is = rw (lt-ltb 48 c (omega arith), e, is)
 decimal-next (c ∷ b ∷ f) d e h is =
     let (first, digits) = (and-eq-true_iff (ltb 48 c) (all is_digit (c ∷ b ∷ f))).0 e in
@@ -108,7 +108,7 @@ decimal_digit d e =
 
 pub decimal-again : (f : List ℕ) → is_decimal f ≡ true → decimal (number_of f) ≡ f
 unfolding is_decimal spelt all
-decimal-again [] h = let z : ◌≡◌ {A = ℕ} 0 1 = cc in absurd (omega arith)
+decimal-again [] h = absurd cc
 decimal-again (d ∷ []) h = rw zero-add (decimal_digit d h)
 decimal-again (d ∷ e ∷ ds) h =
     let (first, digits) = (and-eq-true_iff (ltb 48 d) (all is_digit (d ∷ e ∷ ds))).0 h in

@@ -15,7 +15,7 @@ use Rattle.sheet.specs.Lines.{Parts, parts, split}
 module _ (separator : ℕ) where
   -- what is searched for
   abbrev pub ends : ℕ → Bool
-  ends b = is_any separator separator separator b
+  ends = is_any (separator ∷ [])
 
   -- what a byte makes of the parts after it
   abbrev before : Bool → ℕ → Parts → Parts

@@ -21,7 +21,7 @@ use Rattle.sheet.specs.Fields.{tab, newline}
 use Rattle.sheet.specs.FromSheet.{read_lines, sheet_records, from_sheet, from_sheet_answer}
 use Rattle.sheet.specs.Lines.{Parts, parts, split, tag_of_word, check_all, read_fields, read_line}
 use Rattle.sheet.specs.Promises.{FirstFaultDecides, OfLines, CallsFirstFault, last_tag, RefusedLine, FaultyLine, CallsFaultyLine, LineNumber, OfSheet, FromSheetRefuses}
-use Rattle.sheet.proofs.FaultyLines.{never, then-fault, check-fault, fault-is-of-a-line}
+use Rattle.sheet.proofs.FaultyLines.{then-fault, check-fault, fault-is-of-a-line}
 use Rattle.sheet.proofs.Splitting.{split-append}
 
 -- ---- the first faulty line decides
@@ -35,7 +35,7 @@ unfolding read_lines check
 fault-stays [] n previous line last more r e =
     then-fault _ _ r e
     (λ f. after-fault _ _ f)
-    (λ a f g. absurd (then-fault _ _ r g (λ f. never f) (λ rs f g. never g)))
+    (λ a f g. absurd (then-fault _ _ r g (λ f. cc) (λ rs f g. cc)))
 fault-stays (next ∷ rest) n previous line last more r e =
     then-fault _ _ r e
     (λ f. after-fault _ _ f)
@@ -43,7 +43,7 @@ fault-stays (next ∷ rest) n previous line last more r e =
     after-good _ _ f ∙
     then-fault _ _ r g
     (λ f. after-fault _ _ (fault-stays rest _ (Some a.tag) next last more r f))
-    (λ rs f g. absurd (never g)))
+    (λ rs f g. absurd cc))
 
 split-ended : (s : List ℕ) → split newline (s ++ (newline ∷ [])) ≡ parts (split newline s).first ((split newline s).rest ++ [] ∷ [])
 unfolding split

@@ -2,6 +2,7 @@
 -- Assumes nothing.
 use mathlib.Core.Path.{refl}
 use mathlib.Core.List.{flat_map}
+use Rattle.find.specs.Find.{until}
 use Rattle.find.specs.Nul.{until_nul}
 use Rattle.wire.specs.Number.{little_endian, bytes_of}
 use Rattle.wire.specs.Padding.{padding, aligned, all_zero}
@@ -26,5 +27,5 @@ use Rattle.sheet.specs.FromSheet.{read_lines, sheet_records, from_sheet, from_sh
 use Rattle.sheet.specs.Samples.{SamplesHold}
 
 pub samples-hold : SamplesHold
-unfolding answer output_after to_sheet_answer to_sheet_output to_sheet sheet from_sheet_answer from_sheet_output from_sheet sheet_records read_lines read_line read_fields check_all is_made tag_among same split line all spelt is_decimal is_number hex_pairs is_hex_pairs bytes_of_pairs escape is_escaped unescape records_of records sections rec.leading rec.begun resolve sections_of begun leading check_row check_rows check_texts obeys tag_rule all_inside parse parse_sections frame parse_section parse_contents parse_stored parse_names parse_arguments pairs pair pair_text framed entries entry terminated_text ascii decimal_within within_limits all_countable countable encode encode_section content_entry name_entry pair_entry stored_bytes body_header kind_of spans_by same_tag check then check_text side_of well_formed utf8_of octets_from char_length first_length begins until_nul little_endian bytes_of padding aligned all_zero flat_map
+unfolding answer output_after to_sheet_answer to_sheet_output to_sheet sheet from_sheet_answer from_sheet_output from_sheet sheet_records read_lines read_line read_fields check_all is_made tag_among same split line all spelt is_decimal is_number hex_pairs is_hex_pairs bytes_of_pairs escape is_escaped unescape records_of records sections rec.leading rec.begun resolve sections_of begun leading check_row check_rows check_texts obeys tag_rule all_inside parse parse_sections frame parse_section parse_contents parse_stored parse_names parse_arguments pairs pair pair_text framed entries entry terminated_text ascii decimal_within within_limits all_countable countable encode encode_section content_entry name_entry pair_entry stored_bytes body_header kind_of spans_by same_tag check then check_text side_of well_formed utf8_of octets_from char_length first_length begins until_nul until little_endian bytes_of padding aligned all_zero flat_map
 samples-hold = refl

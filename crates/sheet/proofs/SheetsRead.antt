@@ -5,9 +5,9 @@ use Prim.Native.Nat.{ℕ, ◌+◌}
 use mathlib.Core.Bool.{true, and-eq-true_iff}
 use mathlib.Core.List.{List, [], ◌∷◌, ◌++◌, flat_map, append_assoc}
 use mathlib.Core.Path.{◌≡◌, refl, ap₂, ◌∙◌}
-use native.Mathlib.Omega.{arith}
 use borrow.Author.Tests.{eqb-true}
 use lib.ListN.{length}
+use Rattle.std.proofs.lemmas.List.{nil_from_length}
 use Rattle.layout.specs.Checked.{check}
 use Rattle.layout.proofs.Checked.{check-good, then-good, then-passes}
 use Rattle.table.specs.declared.tag.Tag.{Tag}
@@ -63,10 +63,6 @@ record Read (previous : Option Tag) (first : List ℕ) (rest : List (List ℕ)) 
   whole : All Whole rs
   order : in_order previous rs ≡ true
 
-none : (l : List ℕ) → length l ≡ 0 → l ≡ []
-none [] e = refl
-none (b ∷ l) e = absurd (omega arith)
-
 read-lines :
     (rest : List (List ℕ)) (n : ℕ) (previous : Option Tag) (first : List ℕ) (rs : List Record) →
     read_lines n previous first rest ≡ Ok rs →
@@ -76,7 +72,7 @@ read-lines :
 unfolding read_lines flat_map in_order
 read-lines [] n previous last rs e free frees =
     let (empty, same) = check-good _ _ _ _ e in
-    let nothing = none last (eqb-true (length last) 0 empty) in
+    let nothing = nil_from_length last (eqb-true (length last) 0 empty) in
     let records : rs ≡ [] = cc in
     rw (records, nothing) (record { lines = refl; whole = tt; order = refl })
 read-lines (next ∷ rest) n previous first rs e free (k, ks) =

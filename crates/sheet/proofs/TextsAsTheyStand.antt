@@ -15,7 +15,9 @@ use Rattle.utf8.specs.Classes.{class_of, length_after}
 use Rattle.utf8.specs.Rfc3629.{Range, alternatives, within, begins, first_length, char_length, octets_from, utf8_of, well_formed, ill_formed}
 use Rattle.utf8.proofs.Alternatives.{length_at, class-length}
 use Rattle.utf8.proofs.Laws.{well-formed, not-well-formed}
+use Rattle.find.specs.Find.{until, is_any}
 use Rattle.find.specs.Nul.{until_nul, has_nul}
+use Rattle.find.proofs.FindLaws.{any-one, until-more}
 use Rattle.layout.specs.TextCheck.{check_whole}
 use Rattle.sheet.specs.Fields.{tab, newline, backslash, is_escape, meant, is_escaped, unescape}
 use Rattle.sheet.proofs.Escapes.{Field, none, byte, pair, field, plain-means, escape-means}
@@ -41,7 +43,7 @@ escape c e = go (eqb c 92) (eqb c 116) (eqb c 110) refl refl refl e
     go x true z e f g h = rw (eqb-true c 116 f) of_tab
     go x false true e f g h = rw (eqb-true c 110 g) of_newline
     go true false false e f g h = rw (eqb-true c 92 e) of_backslash
-    go false false false e f g h = let z : ◌≡◌ {A = ℕ} 0 1 = cc in absurd (omega arith)
+    go false false false e f g h = absurd cc
 
 -- ---- the rest of a character: ranges above ASCII
 
@@ -101,7 +103,7 @@ data Rest : ℕ → List ℕ → Type 0 where
 begins-rest : (rs : List Range) → high rs ≡ true → (s : List ℕ) → begins rs s ≡ true → Rest (length rs) s
 unfolding begins high
 begins-rest [] e s h = done
-begins-rest (r ∷ rs) e [] h = let z : ◌≡◌ {A = ℕ} 0 1 = cc in absurd (omega arith)
+begins-rest (r ∷ rs) e [] h = absurd cc
 begins-rest (r ∷ rs) e (b ∷ s) h =
     let (this, after) = (and-eq-true_iff (leb 0x80 r.low) (high rs)).0 e in
     let (first, others) = (and-eq-true_iff (within r b) (begins rs s)).0 h in
@@ -111,14 +113,14 @@ begins-rest (r ∷ rs) e (b ∷ s) h =
 
 length_rest : (n : ℕ) (alts : List (List Range)) → all_high alts ≡ true → (s : List ℕ) (m : ℕ) → length_at n alts s ≡ suc m → Rest m s
 unfolding length_at length_after all_high
-length_rest n [] e s m h = let z : ◌≡◌ {A = ℕ} 0 1 = cc in absurd (omega arith)
+length_rest n [] e s m h = absurd cc
 length_rest zero (rs ∷ rest) e s m h = go (begins (drop 1 rs) s) refl h
   where
     go : (t : Bool) → begins (drop 1 rs) s ≡ t → elim t as (λ _. ℕ) [ true ↦ suc (length (drop 1 rs)) | false ↦ 0 ] ≡ suc m → Rest m s
     go true q k =
         let many : length (drop 1 rs) ≡ m = omega arith in
         rw many at (begins-rest (drop 1 rs) ((and-eq-true_iff (high (drop 1 rs)) (all_high rest)).0 e).0 s q)
-    go false q k = let z : ◌≡◌ {A = ℕ} 0 1 = cc in absurd (omega arith)
+    go false q k = absurd cc
 length_rest (suc n) (rs ∷ rest) e s m h = length_rest n rest ((and-eq-true_iff (high (drop 1 rs)) (all_high rest)).0 e).1 s m h
 
 char-rest : (b : ℕ) (s : List ℕ) (n : ℕ) → char_length (b ∷ s) ≡ suc n → Rest n s
@@ -178,8 +180,10 @@ octets-same zero i j (pair c {f} q h) r =
 
 nul-first : (b : ℕ) (s : List ℕ) → has_nul (b ∷ s) ≡ (eqb b 0 || has_nul s)
 unfolding until_nul
-nul-first zero s = leb-suc-suc 0 (length s) ∙ leb-zero (length s)
-nul-first (suc b) s = rw (eqb-suc-zero b, until_nul) (leb-suc-suc (suc (until_nul s)) (length s))
+nul-first zero s = unfold until in leb-suc-suc 0 (length s) ∙ leb-zero (length s)
+nul-first (suc b) s =
+    let other = eqb-suc-zero b in
+    rw (other, until-more (is_any (0 ∷ [])) (suc b) s (any-one 0 (suc b) ∙ other)) (leb-suc-suc (suc (until_nul s)) (length s))
 
 nul-same : {f : List ℕ} → Field f → has_nul (unescape f) ≡ has_nul f
 nul-same none = unfold unescape in refl

@@ -5,7 +5,6 @@ use Prim.Native.Nat.{ℕ}
 use mathlib.Core.Bool.{Bool, true, false, cond, not, ◌&&◌, and-eq-true_iff}
 use mathlib.Core.List.{List, [], ◌∷◌}
 use mathlib.Core.Path.{◌≡◌, refl, sym, ap₂}
-use native.Mathlib.Omega.{arith}
 use borrow.Author.Tests.{eqb-true, not-true}
 use lib.Dec.{eqb}
 use Rattle.std.proofs.lemmas.Option.{none-some}
@@ -58,8 +57,8 @@ word-within tag.Pair = within (word tag.Pair) refl
 pub same-is : (s t : List ℕ) → same s t ≡ true → s ≡ t
 unfolding same
 same-is [] [] e = refl
-same-is [] (b ∷ t) e = let z : ◌≡◌ {A = ℕ} 0 1 = cc in absurd (omega arith)
-same-is (a ∷ s) [] e = let z : ◌≡◌ {A = ℕ} 0 1 = cc in absurd (omega arith)
+same-is [] (b ∷ t) e = absurd cc
+same-is (a ∷ s) [] e = absurd cc
 same-is (a ∷ s) (b ∷ t) e =
     let (this, rest) = (and-eq-true_iff (eqb a b) (same s t)).0 e in
     ap₂ (λ (x : ℕ) (l : List ℕ). x ∷ l) (eqb-true a b this) (same-is s t rest)

@@ -1,8 +1,9 @@
 -- A record as a line of a sheet: a word that tells its tag, its numbers, its bytes or texts, parted by tabs and closed by a newline. And a line as
 -- a record.
-use Rattle.std.specs.Prelude.{ℕ, ◌+◌, ◌%◌, Bool, true, false, cond, not, ◌&&◌, ◌||◌, leb, eqb, length, take, drop, Option, Some, None, Err, Ok}
+use Rattle.std.specs.Prelude.{ℕ, ◌+◌, Bool, true, false, cond, not, ◌&&◌, ◌||◌, eqb, length, take, drop, Option, Some, None, Err, Ok}
 use mathlib.Core.List.{List, [], ◌∷◌, ◌++◌, map, flat_map}
 use Rattle.layout.specs.Checked.{Checked, check, then}
+use Rattle.layout.specs.Kinds.{unknown_rule}
 use Rattle.layout.specs.TextCheck.{check_whole}
 use Rattle.layout.specs.declared.refusal.Refusal.{Refusal}
 use Rattle.table.specs.Tags.{same_tag, begins_section}
@@ -91,7 +92,7 @@ is_made tag fs =
 
 -- what the rule of rows asks of an unknown section: a kind from 3 to 65,535, and a multiple of 4 bytes
 abbrev pub is_ruled : Record → Bool
-is_ruled r = not (same_tag (Some r.tag) (Some tag.Unknown)) || (leb 3 (number 0 r) && leb (number 0 r) 65535 && eqb (length (text 0 r) % 4) 0)
+is_ruled r = not (same_tag (Some r.tag) (Some tag.Unknown)) || unknown_rule (number 0 r) (length (text 0 r))
 
 -- texts in order: the first fault counts
 unfoldable pub check_all : List (List ℕ) → Checked (Unit {0})

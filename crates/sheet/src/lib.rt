@@ -1,4 +1,4 @@
-// A sheet: a payload as lines of text, which a moderator can edit. This crate has no code: specs/ holds the
+// A sheet: a payload as lines of text, which a moderator can edit. This crate has no code but three constants: specs/ holds the
 // definitions that the contracts of the crates of sheets name (field_writer, to_sheet, line_reader, lines, from_sheet), and
 // the promises; proofs/ proves them.
 //
@@ -15,3 +15,10 @@
 // Proved: each promise of specs/Promises.antt, and that the samples hold. Nothing is assumed.
 
 #![tactic(auto)]
+
+// What parts the fields of a line, what closes a line, and what begins an escape.
+pub const TAB: u8 = b'\t';
+
+pub const NEWLINE: u8 = b'\n';
+
+pub const BACKSLASH: u8 = b'\\';

@@ -13,9 +13,9 @@ use std::io::Write;
 
 fn main(rt: HostRuntime) -> io::Result<()> {
     // a byte more than the program reads a card from, which tells that there are more
-    let mut input = [0u8; 65537];
+    let mut input = [0u8; print::MOST + 1];
     let count = print::read_full(&mut rt.reader(), &mut input)?;
-    let mut output = [0u8; 65536];
-    let size = print::print_card(&input[..count], &mut output);
+    let mut output = [0u8; print::MOST];
+    let size = print::write_card(&input[..count], &mut output);
     io::writer(&rt).write_all(&output[..size])
 }

@@ -8,14 +8,11 @@ use borrow.Author.Tests.{leb-true, leb-false, le-leb, lt-leb}
 use lib.Dec.{leb}
 use Rattle.wire.specs.Length.{wire_size}
 use Rattle.wire.specs.Padding.{aligned}
-use Rattle.wire.proofs.PaddingLaws.{le-aligned, padding-below}
+use Rattle.wire.proofs.PaddingLaws.{le-aligned}
 use Rattle.table.specs.declared.tag.Tag.{Tag}
 use Rattle.table.specs.declared.tag.Tag.TheVariants.{PlainContents, PackedContents, Names, Arguments, Unknown, Content, Name, Pair}
 use Rattle.format.specs.Encoding.{limit}
 use Rattle.sizes.specs.Measure.{capped, opened, added}
-
--- padding adds under 4 bytes
-pub ruleset padded = (padding-below)
 
 pub capped_small : (most n : ℕ) → n ≤ most → capped most n ≡ n
 unfolding capped

@@ -4,7 +4,7 @@
 -- Assumes nothing.
 use Rattle.std.specs.Prelude.{Option, Some, None, Err, Ok}
 use Prim.Native.Nat.{ℕ, ◌+◌, ◌≤◌}
-use mathlib.Core.Bool.{Bool, true, false, cond, not, and-eq-true_iff, ◌&&◌, ◌||◌}
+use mathlib.Core.Bool.{Bool, true, false, cond, not, and-eq-true_iff, ◌&&◌}
 use mathlib.Core.List.{List, [], ◌∷◌, ◌++◌, flat_map}
 use mathlib.Core.Logic.{◌⊎◌, inl, inr, ⊎_elim}
 use mathlib.Core.Path.{◌≡◌, refl, sym, ap, ◌∙◌}
@@ -13,7 +13,7 @@ use native.Mathlib.Omega.{arith}
 use borrow.Author.Tests.{leb-true, le-leb, le-ltb, ltb-false, not-true}
 use lib.Dec.{leb, ltb}
 use lib.ListN.{length, length-append}
-use Rattle.std.proofs.lemmas.Bool.{false_from_ne_true}
+use Rattle.std.proofs.lemmas.Bool.{false_from_ne_true, or_parts}
 use Rattle.wire.specs.Padding.{aligned}
 use Rattle.wire.proofs.PaddingLaws.{le-aligned, aligned-of-multiple}
 use Rattle.layout.specs.Checked.{check}
@@ -68,10 +68,6 @@ record Same (m after : Sizes) (r : Record) (rs : List Record) : Type 0 where
   back : Fit after rs → Fit m (r ∷ rs) × (total after rs ≡ total m (r ∷ rs))
   forth : Fit m (r ∷ rs) → Fit after rs
   sound : Sound after
-
-or-false : (a b : Bool) → (a || b) ≡ false → (a ≡ false) × (b ≡ false)
-or-false true b e = cc
-or-false false b e = (refl, e)
 
 still-narrow : (t : Tag) (size : ℕ) → (t ≡ Name → size ≤ widest) → (same_tag (Some t) (Some Name) && ltb widest size) ≡ false
 still-narrow t size h =
@@ -144,7 +140,7 @@ module _ (m : Sizes) (r : Record) (rs : List Record) where
               let (same, whole, sum) = uncapped (small-capped limit current cap) in (
                 record {
                   few = rw same-sections f.few;
-                  narrow = (or-false m.wide _ f.narrow).0;
+                  narrow = (or_parts m.wide _ f.narrow).0;
                   entries = λ q. rw whole (f.entries (fixed ∙ sym own ∙ q));
                   all = rw same-sections f.all;
                   small = rw (← sum) f.small;
@@ -163,7 +159,7 @@ module _ (m : Sizes) (r : Record) (rs : List Record) where
               };
           sound = λ e q.
               let name : Some t ≡ Some Name = sym fixed ∙ q in
-              ltb-false widest (capped limit current) (rw (same_tag_lem (Some t) (Some Name) name) at (or-false m.wide _ e).1);
+              ltb-false widest (capped limit current) (rw (same_tag_lem (Some t) (Some Name) name) at (or_parts m.wide _ e).1);
         }
 
   -- one that begins a section

@@ -17,7 +17,7 @@ pub(crate) fn cap(most: usize, number: usize) -> u32
 }
 
 // A length with its padding. `wire::align4` takes two numbers of 32 bits, and a text's size on the wire has 33.
-#[tactic(auto, using(crate::proofs::Capped::padded), unfolding(wire::specs::Padding::aligned))]
+#[tactic(auto, using(wire::proofs::PaddingLaws::padding_bounds), unfolding(wire::specs::Padding::aligned))]
 pub(crate) fn align(length: usize) -> usize
     requires { length < 2 ^ 63 }
     ensures value { result ≡ aligned length }

@@ -42,9 +42,9 @@ pub extern "C" fn srci_read(payload: &[u8], rows: &mut [u32], second: &mut u32) 
 // Writes the rows of a table, over a payload and an edit text, to a lent output. Answers 0, or the refusal's
 // number. Stores in `second` how many bytes were stored, or the refusal's second number.
 #[unsafe(no_mangle)]
-pub extern "C" fn srci_write<'a>(
-    payload: &'a [u8],
-    edit: &'a [u8],
+pub extern "C" fn srci_write(
+    payload: &[u8],
+    edit: &[u8],
     rows: &[u32],
     output: &mut [u8],
     second: &mut u32,

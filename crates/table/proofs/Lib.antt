@@ -1,3 +1,4 @@
+pub mod Leading
 pub mod Promises
 pub mod Rows
 pub mod Tags

@@ -2,18 +2,16 @@
 use Prim.Native.Nat.{ℕ, zero, suc, ◌+◌, ◌*◌, ◌/◌, ◌%◌, ◌<◌, ◌≤◌}
 use native.Mathlib.Omega.{arith}
 use native.Mathlib.Nat.{suc-mul}
-use native.Mathlib.Numerals.{towards_suc}
+use native.Mathlib.Numerals.{add-one, towards_suc}
 use mathlib.Core.Bool.{Bool, true, false, cond}
 use mathlib.Core.Path.{◌≡◌, refl, sym, ap, ◌∙◌}
 use mathlib.Core.List.{List, [], ◌∷◌, ◌++◌, flat_map, append-nil}
 use borrow.Author.Tests.{lt-ltb, le-ltb}
 use lib.Dec.{ltb, lit<, leb-suc-suc}
 use lib.ListN.{length, get_or, get_or-eq_default, set, drop, length-append, length-drop, drop_of_length-le}
-use lib.Seq.{sets, length-sets, sets-eq, take-append_seam, drop-append-add, drop-drop}
+use lib.Seq.{sets, length-sets, sets-eq, drop-cons, take-append_seam, drop-append-add, drop-drop}
 use Rattle.table.specs.declared.row.Row.{Row}
 use Rattle.table.specs.Rows.{width, row, no_row, rows_of, numbers_of, table_of, store_row}
-use Rattle.wire.proofs.Sets.{sets-whole}
-use borrow.Rule.Slice.PartMut.{put_mid}
 use Rattle.std.specs.Simd.{first_chunks}
 use Rattle.layout.proofs.Lists.{flat_map-append}
 
@@ -40,6 +38,9 @@ length-rows_of t = go (whole t)
     go : {u : List ℕ} → Whole u → length (rows_of u) ≡ length u / width
     go (rest h e) = rw e (omega arith)
     go (next r w) = let ih = go w in omega arith
+
+-- the whole rows of a table are counted by its numbers
+pub ruleset rows_counted = (length-rows_of)
 
 -- the row whose first number stands at a place
 abbrev pub row_at : List ℕ → ℕ → Row
@@ -73,6 +74,15 @@ chunk-row t i chunk chunks h f e = rw (e, f) (go (whole t) i h)
     go (next r {t = u} w) (suc k) l =
         let more : length (numbers_of r ++ u) / width ≡ suc (length u / width) = omega arith in
         rw more (go w k (omega arith))
+
+-- the rows from an index on: the row there, and those after it
+pub next-row : (t : List ℕ) (i : ℕ) → i < length (rows_of t) → drop i (rows_of t) ≡ get_or (rows_of t) i no_row ∷ drop (i + 1) (rows_of t)
+next-row t i h = rw add-one (drop-cons (rows_of t) i no_row h)
+
+pub no-row : (t : List ℕ) (i : ℕ) → length (rows_of t) ≤ i → drop i (rows_of t) ≡ []
+no-row t i h = drop_of_length-le (rows_of t) {i = i} h
+
+pub ruleset rows_left = (next-row, no-row)
 
 -- past the last whole row there is none
 pub past-row : (t : List ℕ) (i : ℕ) → length t / width ≤ i → get_or (rows_of t) i no_row ≡ no_row
@@ -120,16 +130,6 @@ table_of-rows_of t h = go (whole t) h
     go : {u : List ℕ} → Whole u → length u % width ≡ 0 → table_of (rows_of u) ≡ u
     go (rest {t = u} l e) m = ap table_of e ∙ sym (drop_of_length-le {A = ℕ} u {i = 0} (omega arith))
     go (next r w) m = ap (λ (l : List ℕ). numbers_of r ++ l) (go w (omega arith))
-
-pub stored-in : (t ws : List ℕ) (i k : ℕ) (r : Row) → i < length t / width → ws ≡ numbers_of r → k ≡ width → put_mid (i * width) k t ws ≡ store_row t i r
-unfolding store_row
-stored-in t ws i k r h e f = rw (lt-ltb i (length t / width) h) (sets-whole ws (numbers_of r) t (i * width) k e f (omega arith))
-
-pub stored-out : (t : List ℕ) (i : ℕ) (r : Row) → length t / width ≤ i → store_row t i r ≡ t
-unfolding store_row
-stored-out t i r h = rw (le-ltb i (length t / width) h)
-
-pub ruleset storing = (stored-in, stored-out)
 
 pub length-store_row : (t : List ℕ) (i : ℕ) (r : Row) → length (store_row t i r) ≡ length t
 unfolding store_row

@@ -1,9 +1,10 @@
 -- A table as rows of seven numbers, the row of each tag by what it holds, and the spans that a row names. Only here do a row's numbers stand in a
 -- line.
-use Rattle.std.specs.Prelude.{ℕ, ◌*◌, ◌/◌, cond, ltb, length, Option, Some, None}
+use Rattle.std.specs.Prelude.{ℕ, ◌*◌, ◌/◌, ◌%◌, Bool, eqb, cond, ltb, length, Option, Some, None}
 use mathlib.Core.List.{List, [], ◌∷◌, flat_map}
 use Rattle.std.proofs.lemmas.List.Edits.{sets}
-use Rattle.layout.specs.Spans.{Span, span}
+use Rattle.layout.specs.Spans.{span}
+use Rattle.layout.specs.declared.span.Span.{Span}
 use Rattle.table.specs.Tags.{tag_of}
 use Rattle.table.specs.declared.row.Row.{Row}
 use Rattle.table.specs.declared.tag.Tag.{Tag}
@@ -32,6 +33,10 @@ rows_of (t ∷ s ∷ a ∷ b ∷ []) = []
 rows_of (t ∷ s ∷ a ∷ b ∷ c ∷ []) = []
 rows_of (t ∷ s ∷ a ∷ b ∷ c ∷ d ∷ []) = []
 rows_of (t ∷ s ∷ a ∷ b ∷ c ∷ d ∷ e ∷ rest) = row t s a b c d e ∷ rows_of rest
+
+-- whether a table holds whole rows, and no numbers past them
+abbrev pub are_whole : List ℕ → Bool
+are_whole table = eqb (length table % width) 0
 
 abbrev pub numbers_of : Row → List ℕ
 numbers_of r = r.tag ∷ r.side ∷ r.a ∷ r.b ∷ r.c ∷ r.d ∷ r.e ∷ []

@@ -1,19 +1,16 @@
 -- The tags of rows by document 01's names: one type, and one function from a row's number to it.
-use Rattle.std.specs.Prelude.{ℕ, zero, suc, Bool, true, false, eqb, Option, Some, None, option_and_then}
+use Rattle.std.specs.Prelude.{ℕ, Bool, true, false, eqb, get_or, Option, Some, None, option_and_then}
+use mathlib.Core.List.{List, [], ◌∷◌, map}
 use Rattle.table.specs.declared.tag.Tag.{Tag}
 use Rattle.table.specs.declared.tag.Tag.TheVariants.{PlainContents, PackedContents, Names, Arguments, Unknown, Content, Name, Pair}
 
--- the tag that a number stands for; a number over 7 is no tag's. By `suc`, since no numeral can stand in a pattern
+-- the tags in the order of their numbers, from 0
+abbrev pub tags : List Tag
+tags = PlainContents ∷ PackedContents ∷ Names ∷ Arguments ∷ Unknown ∷ Content ∷ Name ∷ Pair ∷ []
+
+-- the tag that a number stands for; a number over 7 is no tag's
 abbrev pub tag_of : ℕ → Option Tag
-tag_of zero = Some PlainContents
-tag_of (suc zero) = Some PackedContents
-tag_of (suc (suc zero)) = Some Names
-tag_of (suc (suc (suc zero))) = Some Arguments
-tag_of (suc (suc (suc (suc zero)))) = Some Unknown
-tag_of (suc (suc (suc (suc (suc zero))))) = Some Content
-tag_of (suc (suc (suc (suc (suc (suc zero)))))) = Some Name
-tag_of (suc (suc (suc (suc (suc (suc (suc zero))))))) = Some Pair
-tag_of (suc (suc (suc (suc (suc (suc (suc (suc n)))))))) = None
+tag_of n = get_or (map Some tags) n None
 
 abbrev pub tag_number : Tag → ℕ
 tag_number PlainContents = 0
@@ -47,6 +44,10 @@ entry_tag Pair = Some Pair
 abbrev pub entry_after : Option Tag → Option Tag
 entry_after previous = option_and_then entry_tag previous
 
+-- an entry follows its section's row or a row of its own tag
+abbrev pub follows : Tag → Option Tag → Bool
+follows own previous = same_tag (entry_after previous) (Some own)
+
 -- whether a row of a tag begins a section; any other is an entry of the section before it
 abbrev pub begins_section : Tag → Bool
 begins_section PlainContents = true
@@ -73,3 +74,8 @@ headers_size Unknown = 8
 headers_size Content = 0
 headers_size Name = 0
 headers_size Pair = 0
+
+-- of what has tags, those of one tag that stand at the start, each as f has it
+abbrev pub leading_by : {X A : Type 0} → (X → Option Tag) → Option Tag → (X → A) → List X → List A
+leading_by own tag f [] = []
+leading_by own tag f (x ∷ xs) = elim (same_tag (own x) tag) [ true ↦ f x ∷ leading_by own tag f xs | false ↦ [] ]

@@ -4,7 +4,9 @@
 #![tactic(auto)]
 
 mod row;
+mod table_rows;
 mod tag;
 
 pub use row::Row;
+pub use table_rows::TableRows;
 pub use tag::Tag;

@@ -1,13 +1,15 @@
 // A row of a table: seven numbers. No other file knows how many they are or where each stands in a table, or makes the row
 // of a tag.
-ghost use Rattle.std.specs.Prelude.{◌≡◌, get_or};
+ghost use Rattle.std.specs.Prelude.{◌≡◌, length, get_or};
 ghost use Rattle.layout.specs.Spans.{span};
-ghost use Rattle.table.specs.Rows.{rows_of, no_row, store_row, plain_row, packed_row, names_row, arguments_row, unknown_row, content_row, name_row, pair_row};
+ghost use Rattle.table.specs.Rows.{rows_of, are_whole, no_row, store_row, bytes_span, text_span, value_span, plain_row, packed_row, names_row, arguments_row, unknown_row, content_row, name_row, pair_row};
 
 use crate::tag::Tag;
+use layout::Span;
 use wire::TextLength;
 
-// All seven are numbers, the tag and the side too, since in the C interface a row is nothing else.
+// All seven are numbers, the tag and the side too: through the C interface a caller may store any, and a row of no tag or of no
+// side is refused in its turn, by the rules of rows.
 #[derive(Clone, Copy)]
 pub struct Row {
     // What the row is, by the number of its tag.
@@ -35,6 +37,21 @@ impl Row {
         d: 0,
         e: 0,
     };
+
+    // How many rows a table holds. Numbers past its last whole row are none.
+    #[tactic(auto, using(crate::proofs::Rows::rows_counted))]
+    pub fn count(table: &[u32]) -> usize
+        ensures { result ≡ length (rows_of table.now) }
+    {
+        table.len() / Row::WIDTH
+    }
+
+    // Whether a table holds whole rows and no numbers past them.
+    pub fn are_whole(table: &[u32]) -> bool
+        ensures { result ≡ are_whole table.now }
+    {
+        table.len() % Row::WIDTH == 0
+    }
 
     // The row at an index of a table, all zeros where the table does not hold it whole.
     pub fn load(table: &[u32], index: usize) -> Row
@@ -70,6 +87,43 @@ impl Row {
             table[at + 5] = self.d;
             table[at + 6] = self.e;
         }
+    }
+
+    // ---- The spans that a row names, all on its side.
+
+    #[inline(always)]
+    fn span(self, start: u32, count: u32) -> Span
+        ensures { result ≡ span self.side start count }
+    {
+        Span {
+            side: self.side,
+            start,
+            count,
+        }
+    }
+
+    // The bytes of a packed or an unknown section.
+    #[inline(always)]
+    pub fn bytes_span(self) -> Span
+        ensures { result ≡ bytes_span self }
+    {
+        self.span(self.b, self.c)
+    }
+
+    // The text of a content or a name, or the name of a pair.
+    #[inline(always)]
+    pub fn text_span(self) -> Span
+        ensures { result ≡ text_span self }
+    {
+        self.span(self.a, self.b)
+    }
+
+    // The value of a pair.
+    #[inline(always)]
+    pub fn value_span(self) -> Span
+        ensures { result ≡ value_span self }
+    {
+        self.span(self.c, self.d)
     }
 
     // ---- The row of each tag, as reading stores it: its texts and bytes are in the payload.

@@ -1,6 +1,6 @@
 // What a row is, by the number of its tag.
 ghost use Rattle.std.specs.Prelude.{◌≡◌};
-ghost use Rattle.table.specs.Tags.{tag_of, tag_number, entry_tag, begins_section, headers_size};
+ghost use Rattle.table.specs.Tags.{tag_of, tag_number, entry_tag, follows, begins_section, headers_size};
 
 use layout::SourceInfoSectionType;
 
@@ -24,7 +24,8 @@ pub enum Tag {
 }
 
 impl Tag {
-    // No `TryFrom`: document 01 names the conversions of kinds `from_u16` and `to_u16`, and a tag's are named like them.
+    // No `TryFrom`: document 01 names the conversions of the section type and of the compression `from_u16` and `to_u16`, and a
+    // tag's are named like them.
     pub fn from_u32(value: u32) -> Option<Self>
         ensures { result ≡ tag_of value }
     {
@@ -57,6 +58,14 @@ impl Tag {
             Tag::Arguments | Tag::Pair => Some(Tag::Pair),
             Tag::PackedContents | Tag::Unknown => None,
         }
+    }
+
+    // Whether an entry of this tag may stand after a row of the previous tag.
+    #[tactic(auto, using(crate::proofs::Tags::same_tags))]
+    pub fn follows(self, previous: Option<Tag>) -> bool
+        ensures { result ≡ follows self previous }
+    {
+        previous.and_then(Tag::entry_tag) == Some(self)
     }
 
     // Whether a row of this tag begins a section; any other is an entry of the section before it.

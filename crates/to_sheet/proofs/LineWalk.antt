@@ -1,64 +1,73 @@
--- The lines of entries and of pairs, one after the other: what is left of them after a turn.
+-- The lines of a section, by what it holds: its own line, and those of its entries or pairs.
 -- Assumes nothing.
-use Prim.Native.Nat.{ℕ, ◌+◌, ◌-◌, ◌≤◌, ◌<◌}
-use mathlib.Core.List.{List, [], ◌++◌, map, flat_map}
-use mathlib.Core.Path.{◌≡◌, ap, ◌∙◌}
+use Prim.Native.Nat.{ℕ, zero, suc, ◌+◌}
+use mathlib.Core.List.{List, ◌++◌, map, flat_map, append-nil}
+use mathlib.Core.Path.{◌≡◌, refl, ap}
 use native.Mathlib.Omega.{arith}
-use lib.ListN.{length, drop, length-drop}
+use lib.ListN.{length, drop}
 use lib.Seq.{length-take-le}
 use Rattle.find.specs.Nul.{until_nul}
 use Rattle.find.proofs.NulLaws.{until-length}
 use Rattle.wire.specs.Length.{wire_size}
 use Rattle.wire.specs.Number.{u32_at}
+use Rattle.layout.specs.declared.section_type.SourceInfoSectionType.{SourceInfoSectionType}
+use Rattle.format.specs.Display.{ascii}
+use Rattle.format.specs.Parse.{after_pair}
 use Rattle.format.specs.PublicFacts.{text_at, pairs_at}
 use Rattle.format.specs.Records.{Record, pair_record}
-use Rattle.format.proofs.Walking.{one_fewer, none_left}
+use Rattle.format.specs.Walk.{places_from, pair_at}
+use Rattle.section_reader.specs.Body.{Holds}
+use Rattle.section_reader.specs.Entries.{Placed, placed, entries_from, pairs_from}
+use Rattle.section_reader.specs.declared.body.Body.TheVariants as body
 use Rattle.sheet.specs.Lines.{line}
-use Rattle.sheet.specs.SheetWalk.{entries_at}
-use Rattle.to_sheet.specs.Entry.{pair_line}
-
-module _ (p : List ℕ) (record_at : ℕ → Record) where
-  abbrev pub entry_lines : ℕ → ℕ → List ℕ
-  entry_lines count at = flat_map line (entries_at p record_at count at)
-
-  pub entries_next :
-      (count done : ℕ) → done < count → (at : ℕ) →
-      entry_lines (count - done) at ≡ line (record_at at) ++ entry_lines (count - (done + 1)) (at + u32_at p at)
-  unfolding entries_at flat_map
-  entries_next count done h at = ap (λ (n : ℕ). entry_lines n at) (one_fewer count done h)
-
-  pub entries-end : (count done : ℕ) → count ≤ done → (at : ℕ) → entry_lines (count - done) at ≡ []
-  unfolding entries_at flat_map
-  entries-end count done h at = ap (λ (n : ℕ). entry_lines n at) (none_left count done h)
+use Rattle.sheet.specs.SheetWalk.{content_at, name_at, plain_at, packed_at, unknown_at, entries_at, contents_records, section_records}
+use Rattle.to_sheet.specs.Entry.{content_line, name_line, pair_line}
 
 module _ (p : List ℕ) where
+  -- ---- the lines of the walk are those of the entries, and of the pairs
+
+  lines-entered :
+      (record_at : List ℕ → ℕ → Record) (count at : ℕ) →
+      flat_map line (entries_at p (record_at p) count at) ≡ flat_map (λ (e : Placed). line (record_at e.bytes e.at)) (entries_from p count at)
+  unfolding entries_at entries_from places_from flat_map
+  lines-entered record_at zero at = refl
+  lines-entered record_at (suc count) at = ap (λ (l : List ℕ). line (record_at p at) ++ l) (lines-entered record_at count (at + u32_at p at))
+
   -- a text from a place on ends where its NUL stands
   text-long : (at : ℕ) → length (text_at p at) ≡ until_nul (drop at p)
   text-long at = length-take-le (until_nul (drop at p)) (drop at p) (until-length (drop at p))
 
-  abbrev pub value_start : ℕ → ℕ
-  value_start at = at + wire_size (until_nul (drop at p))
+  lines-paired : (count at : ℕ) → flat_map line (map pair_record (pairs_at p count at)) ≡ flat_map pair_line (pairs_from p count at)
+  unfolding pairs_at pairs_from flat_map
+  lines-paired zero at = refl
+  lines-paired (suc count) at =
+      let start : ℕ = at + wire_size (until_nul (drop at p)) in
+      let there : at + length (text_at p at) + 1 ≡ start = omega (arith, text-long at) in
+      let after : start + length (text_at p start) + 1 ≡ after_pair (pair_at p at) = omega (arith, text-long start) in
+      rw (there, after) (ap (λ (l : List ℕ). pair_line (placed p at) ++ l) (lines-paired count (after_pair (pair_at p at))))
 
-  abbrev pub next_pair : ℕ → ℕ
-  next_pair at = value_start at + wire_size (until_nul (drop (value_start at) p))
+  -- ---- a section
 
-  -- it is at most two past the end where the payload ends before
-  pub next_small : (at most : ℕ) → at ≤ most → length p ≤ most → next_pair at ≤ most + 2
-  next_small at most h k =
-      omega (arith, until-length (drop at p), length-drop at p, until-length (drop (value_start at) p), length-drop (value_start at) p)
+  module _ (kind : SourceInfoSectionType) (at : ℕ) where
+    abbrev said : List ℕ
+    said = flat_map line (section_records p kind at)
 
-  abbrev pub pair_lines : ℕ → ℕ → List ℕ
-  pair_lines count at = flat_map line (map pair_record (pairs_at p count at))
+    pub contents-said : (entries : List Placed) → Holds p kind at (body.Contents entries) → said ≡ line (plain_at p at) ++ flat_map content_line entries
+    unfolding section_records contents_records flat_map
+    contents-said entries (is, plain, all) = rw (is, plain, all) (ap (λ (l : List ℕ). line (plain_at p at) ++ l) (lines-entered content_at (u32_at p (at + 24)) (at + 28)))
 
-  pub pairs_next :
-      (count done : ℕ) → done < count → (at : ℕ) →
-      pair_lines (count - done) at ≡ pair_line p at (until_nul (drop at p)) (value_start at) (until_nul (drop (value_start at) p)) ++ pair_lines (count - (done + 1)) (next_pair at)
-  unfolding pairs_at flat_map
-  pairs_next count done h at =
-      let there : at + length (text_at p at) + 1 ≡ value_start at = omega (arith, text-long at) in
-      let after : value_start at + length (text_at p (value_start at)) + 1 ≡ next_pair at = omega (arith, text-long (value_start at)) in
-      ap (λ (n : ℕ). pair_lines n at) (one_fewer count done h) ∙ rw (there, after)
+    pub packed-said : Holds p kind at body.Packed → said ≡ line (packed_at p at)
+    unfolding section_records contents_records flat_map
+    packed-said (is, packed) = rw (is, packed) (append-nil (line (packed_at p at)))
 
-  pub pairs-end : (count done : ℕ) → count ≤ done → (at : ℕ) → pair_lines (count - done) at ≡ []
-  unfolding pairs_at flat_map
-  pairs-end count done h at = ap (λ (n : ℕ). pair_lines n at) (none_left count done h)
+    pub names-said : (entries : List Placed) → Holds p kind at (body.Names entries) → said ≡ ascii "names\n" ++ flat_map name_line entries
+    unfolding section_records line ascii flat_map
+    names-said entries (is, all) = rw (is, all) (ap (λ (l : List ℕ). ascii "names\n" ++ l) (lines-entered name_at (u32_at p (at + 12)) (at + 18)))
+
+    pub pairs-said : (pairs : List Placed) → Holds p kind at (body.Arguments pairs) → said ≡ ascii "arguments\n" ++ flat_map pair_line pairs
+    unfolding section_records line ascii flat_map
+    pairs-said pairs (is, all) = rw (is, all) (ap (λ (l : List ℕ). ascii "arguments\n" ++ l) (lines-paired (u32_at p (at + 16)) (at + 20)))
+
+    pub unknown-said : (number : ℕ) → Holds p kind at (body.Unknown number) → said ≡ line (unknown_at p number at)
+    unfolding section_records flat_map
+    unknown-said number is = rw is (append-nil (line (unknown_at p number at)))

@@ -1,109 +1,99 @@
 // The lines of entries and of pairs, stored at a place of the output. Each function answers the place after what it
-// stores.
-ghost use mathlib.Core.List.{flat_map, map};
-ghost use Rattle.std.specs.Prelude.{◌≡◌, ◌+◌, ◌-◌, ◌≤◌, length};
+// stores. Each has a bound on that place, since the numbers of a line are passed as 32 bits; it is of what the function itself
+// stores, so that no type of the output's could hold it. So contents, names and pairs have a loop each: one loop over any items
+// that have a line would have to ask that bound of every run of its iterator, and each kind of item would have an impl of a law.
+ghost use mathlib.Core.List.{flat_map};
+ghost use Rattle.std.specs.Prelude.{[], ◌∷◌, ◌≡◌, ◌+◌, ◌<◌, ◌≤◌, ◌^◌, length};
 ghost use Rattle.std.proofs.lemmas.List.Edits.{sets};
-ghost use Rattle.wire.specs.Number.{u32_at};
-ghost use Rattle.format.specs.Encoding.{limit};
-ghost use Rattle.format.specs.PublicFacts.{pairs_at};
-ghost use Rattle.format.specs.Records.{pair_record};
-ghost use Rattle.format.specs.Walk.{entries_end};
-ghost use Rattle.sheet.specs.Lines.{line};
-ghost use Rattle.sheet.specs.SheetWalk.{entries_at};
-ghost use Rattle.to_sheet.specs.Entry.{sheet_limit, entry_at, pair_line};
+ghost use Rattle.sheet.specs.Fields.{newline};
+ghost use Rattle.section_reader.specs.Entries.{placed};
+ghost use Rattle.to_sheet.specs.Entry.{sheet_limit, content_line, name_line, pair_line};
 
-use layout::SourceInfoSectionType;
-use section_reader::{EntryKind, text_length};
-use wire::TextLength;
+use section_reader::{Content, Contents, Name, Names, Pair, Pairs};
 
-// The line of the entry at a place.
-fn write_entry(payload: &[u8], kind: EntryKind, at: usize, output: &mut [u8], to: usize) -> usize
-    requires at_le_limit { at ≤ limit }
-    requires at_bound { to + length (line (entry_at payload.now kind at)) ≤ sheet_limit }
-    ensures value { result ≡ to + length (line (entry_at payload.now kind at)) }
-    ensures output_after { output.new ≡ sets output.old to (line (entry_at payload.now kind at)) }
+// The end of a line.
+pub fn end_line(output: &mut [u8], end: usize) -> usize
+    requires { end < 2 ^ 60 }
+    ensures value { result ≡ end + 1 }
+    ensures output_after { output.new ≡ sets output.old end (newline ∷ []) }
 {
-    let text = text_length(payload, at);
-    match kind {
-        EntryKind::Content => {
-            wire::write_bytes(output, to, b"content");
-            let start = at + SourceInfoSectionType::CONTENT_ENTRY_HEADER_SIZE;
-            let end = field_writer::write_text(output, (to + 7) as u32, payload, start, text);
-            wire::write_bytes(output, end, b"\n");
-            end + 1
-        }
-        EntryKind::Name => {
-            wire::write_bytes(output, to, b"name");
-            let size = wire::read_u32(payload, at + 12);
-            let next = field_writer::write_number(output, (to + 4) as u32, size);
-            let start = at + SourceInfoSectionType::NAME_ENTRY_HEADER_SIZE;
-            let end = field_writer::write_text(output, next as u32, payload, start, text);
-            wire::write_bytes(output, end, b"\n");
-            end + 1
-        }
-    }
-}
-
-// The lines of so many entries from a place on.
-pub fn write_entries(
-    payload: &[u8],
-    kind: EntryKind,
-    count: u32,
-    start: usize,
-    output: &mut [u8],
-    to: usize,
-) -> usize
-    requires start_bound { entries_end payload.now count start ≤ limit }
-    requires start_bound_2 { to + length (flat_map line (entries_at payload.now (entry_at payload.now kind) count start)) ≤ sheet_limit }
-    ensures value { result ≡ to + length (flat_map line (entries_at payload.now (entry_at payload.now kind) count start)) }
-    ensures output_after { output.new ≡ sets output.old to (flat_map line (entries_at payload.now (entry_at payload.now kind) count start)) }
-{
-    let mut at = start;
-    let mut next = to;
-    for done in 0..count {
-        next = write_entry(payload, kind, at, output, next);
-        at += wire::read_u32(payload, at) as usize;
-    }
-    next
-}
-
-// The line of the pair whose texts stand at two places.
-fn write_pair(
-    payload: &[u8],
-    at: usize,
-    name: TextLength,
-    start: usize,
-    value: TextLength,
-    output: &mut [u8],
-    to: usize,
-) -> usize
-    requires { to + length (pair_line payload.now at name.0 start value.0) ≤ sheet_limit }
-    ensures value { result ≡ to + length (pair_line payload.now at name.0 start value.0) }
-    ensures output_after { output.new ≡ sets output.old to (pair_line payload.now at name.0 start value.0) }
-{
-    wire::write_bytes(output, to, b"pair");
-    let next = field_writer::write_text(output, (to + 4) as u32, payload, at, name);
-    let end = field_writer::write_text(output, next as u32, payload, start, value);
     wire::write_bytes(output, end, b"\n");
     end + 1
 }
 
-// The lines of so many pairs from a place on.
-pub fn write_pairs(payload: &[u8], count: u32, start: usize, output: &mut [u8], to: usize) -> usize
-    requires start_le_limit { start ≤ limit }
-    requires payload_len_bound { length payload.now ≤ limit }
-    requires start_bound { to + length (flat_map line (map pair_record (pairs_at payload.now count start))) ≤ sheet_limit }
-    ensures value { result ≡ to + length (flat_map line (map pair_record (pairs_at payload.now count start))) }
-    ensures output_after { output.new ≡ sets output.old to (flat_map line (map pair_record (pairs_at payload.now count start))) }
+// The line of a content.
+fn write_content(entry: Content, output: &mut [u8], to: usize) -> usize
+    requires { to + length (content_line (placed entry.payload.now entry.at)) ≤ sheet_limit }
+    ensures value { result ≡ to + length (content_line (placed entry.entry.payload.now entry.entry.at)) }
+    ensures output_after { output.new ≡ sets output.old to (content_line (placed entry.entry.payload.now entry.entry.at)) }
 {
-    let mut at = start;
-    let mut next = to;
-    for done in 0..count {
-        let name = TextLength(find::find_nul_from(payload, at) as u32);
-        let value_start = at + name.wire_size().0;
-        let value = TextLength(find::find_nul_from(payload, value_start) as u32);
-        next = write_pair(payload, at, name, value_start, value, output, next);
-        at = value_start + value.wire_size().0;
+    wire::write_bytes(output, to, b"content");
+    let start = entry.text_start();
+    let text = entry.text_length();
+    let end = field_writer::write_text(output, (to + 7) as u32, entry.payload, start, text);
+    end_line(output, end)
+}
+
+// The lines of contents.
+pub fn write_contents(entries: Contents, output: &mut [u8], mut to: usize) -> usize
+    requires { to + length (flat_map content_line entries) ≤ sheet_limit }
+    ensures value { result ≡ to + length (flat_map content_line entries.entry) }
+    ensures output_after { output.new ≡ sets output.old to (flat_map content_line entries.entry) }
+{
+    for entry in entries {
+        to = write_content(entry, output, to);
     }
-    next
+    to
+}
+
+// The line of a name.
+fn write_name(entry: Name, output: &mut [u8], to: usize) -> usize
+    requires { to + length (name_line (placed entry.payload.now entry.at)) ≤ sheet_limit }
+    ensures value { result ≡ to + length (name_line (placed entry.entry.payload.now entry.entry.at)) }
+    ensures output_after { output.new ≡ sets output.old to (name_line (placed entry.entry.payload.now entry.entry.at)) }
+{
+    wire::write_bytes(output, to, b"name");
+    let size = entry.content_size();
+    let next = field_writer::write_number(output, (to + 4) as u32, size);
+    let start = entry.text_start();
+    let text = entry.text_length();
+    let end = field_writer::write_text(output, next as u32, entry.payload, start, text);
+    end_line(output, end)
+}
+
+// The lines of names.
+pub fn write_names(entries: Names, output: &mut [u8], mut to: usize) -> usize
+    requires { to + length (flat_map name_line entries) ≤ sheet_limit }
+    ensures value { result ≡ to + length (flat_map name_line entries.entry) }
+    ensures output_after { output.new ≡ sets output.old to (flat_map name_line entries.entry) }
+{
+    for entry in entries {
+        to = write_name(entry, output, to);
+    }
+    to
+}
+
+// The line of a pair.
+fn write_pair(pair: Pair, output: &mut [u8], to: usize) -> usize
+    requires { to + length (pair_line (placed pair.payload.now pair.at)) ≤ sheet_limit }
+    ensures value { result ≡ to + length (pair_line (placed pair.entry.payload.now pair.entry.at)) }
+    ensures output_after { output.new ≡ sets output.old to (pair_line (placed pair.entry.payload.now pair.entry.at)) }
+{
+    wire::write_bytes(output, to, b"pair");
+    let next = field_writer::write_text(output, (to + 4) as u32, pair.payload, pair.at, pair.name);
+    let start = pair.value_start();
+    let end = field_writer::write_text(output, next as u32, pair.payload, start, pair.value);
+    end_line(output, end)
+}
+
+// The lines of pairs.
+pub fn write_pairs(pairs: Pairs, output: &mut [u8], mut to: usize) -> usize
+    requires { to + length (flat_map pair_line pairs) ≤ sheet_limit }
+    ensures value { result ≡ to + length (flat_map pair_line pairs.entry) }
+    ensures output_after { output.new ≡ sets output.old to (flat_map pair_line pairs.entry) }
+{
+    for pair in pairs {
+        to = write_pair(pair, output, to);
+    }
+    to
 }

@@ -1,16 +1,16 @@
-// The lines of sections, stored at a place of the output. Each function answers the place after what it stores.
+// The lines of sections, stored at a place of the output. Each function answers the place after what it stores. The words
+// stand here and in entry.rt as they are stored, and in crate line_reader as they are tested: either pays for each line, and
+// wants an array of its own length, which a function of a tag could not give; constants for the eight would be no plainer.
 ghost use Rattle.std.specs.Prelude.{◌≡◌, ◌+◌, ◌≤◌, length};
 ghost use mathlib.Core.List.{flat_map};
 ghost use Rattle.std.proofs.lemmas.List.Edits.{sets};
-ghost use Rattle.layout.specs.declared.section_type.SourceInfoSectionType.TheVariants.{SourceContents};
-ghost use Rattle.format.specs.Walk.{compression_at};
 ghost use Rattle.sheet.specs.Lines.{line};
-ghost use Rattle.sheet.specs.SheetWalk.{packed_at, unknown_at, contents_records, section_records};
+ghost use Rattle.sheet.specs.SheetWalk.{plain_at, packed_at, unknown_at, section_records};
 ghost use Rattle.to_sheet.specs.Entry.{sheet_limit};
 
-use crate::entry::{write_entries, write_pairs};
-use layout::{SourceCompression, SourceInfoSectionType};
-use section_reader::{CheckedSection, EntryKind};
+use crate::entry::{end_line, write_contents, write_names, write_pairs};
+use layout::SourceInfoSectionType;
+use section_reader::{Body, CheckedSection};
 
 // The line of packed contents.
 fn write_packed(section: CheckedSection, output: &mut [u8], to: usize) -> usize
@@ -28,8 +28,7 @@ fn write_packed(section: CheckedSection, output: &mut [u8], to: usize) -> usize
     let third = field_writer::write_number(output, second as u32, uncompressed);
     let start = section.at + SourceInfoSectionType::CONTENTS_START;
     let end = field_writer::write_hex(output, third as u32, section.payload, start, size);
-    wire::write_bytes(output, end, b"\n");
-    end + 1
+    end_line(output, end)
 }
 
 // The line of a section of an unknown kind.
@@ -43,36 +42,19 @@ fn write_unknown(section: CheckedSection, kind: u16, output: &mut [u8], to: usiz
     wire::write_bytes(output, to, b"unknown");
     let next = field_writer::write_number(output, (to + 7) as u32, kind as u32);
     let end = field_writer::write_hex(output, next as u32, section.payload, start, bytes);
-    wire::write_bytes(output, end, b"\n");
-    end + 1
+    end_line(output, end)
 }
 
-// The lines of contents.
-fn write_contents(section: CheckedSection, output: &mut [u8], to: usize) -> usize
-    requires kind { section.kind ≡ SourceContents }
-    requires len_bound { to + length (flat_map line (contents_records section.payload.now (compression_at section.payload.now section.at) section.at)) ≤ sheet_limit }
-    ensures value { result ≡ to + length (flat_map line (contents_records section.entry.payload.now (compression_at section.entry.payload.now section.entry.at) section.entry.at)) }
-    ensures output_after { output.new ≡ sets output.old to (flat_map line (contents_records section.entry.payload.now (compression_at section.entry.payload.now section.entry.at) section.entry.at)) }
+// The line of plain contents, before their entries.
+fn write_plain(section: CheckedSection, output: &mut [u8], to: usize) -> usize
+    requires { to + length (line (plain_at section.payload.now section.at)) ≤ sheet_limit }
+    ensures value { result ≡ to + length (line (plain_at section.entry.payload.now section.entry.at)) }
+    ensures output_after { output.new ≡ sets output.old to (line (plain_at section.entry.payload.now section.entry.at)) }
 {
-    match section.compression() {
-        SourceCompression::None => {
-            wire::write_bytes(output, to, b"contents");
-            let field = section.header_field();
-            let end = field_writer::write_number(output, (to + 8) as u32, field);
-            wire::write_bytes(output, end, b"\n");
-            let count = section.content_count();
-            let start = section.at + SourceInfoSectionType::CONTENTS_START;
-            write_entries(
-                section.payload,
-                EntryKind::Content,
-                count,
-                start,
-                output,
-                end + 1,
-            )
-        }
-        SourceCompression::Zlib => write_packed(section, output, to),
-    }
+    wire::write_bytes(output, to, b"contents");
+    let field = section.header_field();
+    let end = field_writer::write_number(output, (to + 8) as u32, field);
+    end_line(output, end)
 }
 
 // The lines of a section.
@@ -81,27 +63,20 @@ pub fn write_section(section: CheckedSection, output: &mut [u8], to: usize) -> u
     ensures value { result ≡ to + length (flat_map line (section_records section.entry.payload.now section.entry.kind section.entry.at)) }
     ensures output_after { output.new ≡ sets output.old to (flat_map line (section_records section.entry.payload.now section.entry.kind section.entry.at)) }
 {
-    match section.kind {
-        SourceInfoSectionType::SourceContents => write_contents(section, output, to),
-        SourceInfoSectionType::SourceNames => {
+    match section.body() {
+        Body::Contents(entries) => {
+            let next = write_plain(section, output, to);
+            write_contents(entries, output, next)
+        }
+        Body::Packed => write_packed(section, output, to),
+        Body::Names(entries) => {
             wire::write_bytes(output, to, b"names\n");
-            let count = section.name_count();
-            let start = section.at + SourceInfoSectionType::NAMES_START;
-            write_entries(
-                section.payload,
-                EntryKind::Name,
-                count,
-                start,
-                output,
-                to + 6,
-            )
+            write_names(entries, output, to + 6)
         }
-        SourceInfoSectionType::Arguments => {
+        Body::Arguments(pairs) => {
             wire::write_bytes(output, to, b"arguments\n");
-            let count = section.pair_count();
-            let start = section.at + SourceInfoSectionType::ARGS_START;
-            write_pairs(section.payload, count, start, output, to + 10)
+            write_pairs(pairs, output, to + 10)
         }
-        SourceInfoSectionType::Unknown(kind) => write_unknown(section, kind, output, to),
+        Body::Unknown(kind) => write_unknown(section, kind, output, to),
     }
 }

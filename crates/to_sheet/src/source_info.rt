@@ -1,7 +1,4 @@
 // The whole sheet of a payload, by a walk that tests nothing: the payload was checked before.
-ghost use Rattle.std.specs.Prelude.{◌≡◌, length};
-ghost use mathlib.Core.List.{flat_map};
-ghost use Rattle.std.proofs.lemmas.List.Edits.{sets};
 ghost use Rattle.sheet.specs.SheetWalk.{sheet_lines};
 ghost use Rattle.sheet.specs.ToSheet.{to_sheet};
 ghost use Rattle.sheet.proofs.SheetFound.{sheet-by-walk};

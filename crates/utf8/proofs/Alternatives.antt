@@ -111,15 +111,6 @@ pub char-length : (s : List ℕ) → char_length s ≤ length s
 unfolding char_length
 char-length s = first-length alternatives s
 
-begins-rest : (r : Range) (rs : List Range) (s : List ℕ) → begins (r ∷ []) s ≡ true → begins (r ∷ rs) s ≡ begins rs (drop 1 s)
-unfolding begins
-begins-rest r rs [] e = absurd (subst T (sym e) tt)
-begins-rest r rs (b ∷ s) e = go (within r b) e
-  where
-    go : (t : Bool) → (t && true) ≡ true → (t && begins rs s) ≡ begins rs s
-    go true e = refl
-    go false e = absurd (subst T (sym e) tt)
-
 pub after-hit : (rs : List Range) (s : List ℕ) → begins rs s ≡ true → suc (length rs) ≡ length_after rs s
 unfolding length_after
 after-hit rs s e = ap (λ (t : Bool). pick t (suc (length rs)) 0) (sym e)

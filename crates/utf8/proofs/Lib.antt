@@ -4,4 +4,5 @@ pub mod Bytes
 pub mod ClassTable
 pub mod Laws
 pub mod Octets
+pub mod PlainBytes
 pub mod Table

@@ -1,2 +1,3 @@
 pub mod Classes
+pub mod Plain
 pub mod Rfc3629

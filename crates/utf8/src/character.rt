@@ -49,5 +49,5 @@ fn are_tails(bytes: &[u8]) -> bool
 fn lies_in(byte: u8, low: u8, high: u8) -> bool
     ensures { result ≡ within (to low high) byte }
 {
-    low <= byte && byte <= high
+    (low..=high).contains(&byte)
 }

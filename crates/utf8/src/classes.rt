@@ -1,8 +1,8 @@
 // The class of each byte value, as a table.
 //
 // A class is the number, from 0, of the alternative of UTF8-char in RFC 3629 that the byte can begin.
-// 9 is a byte that only continues a character, UTF8-tail, and 10 one that no rule of the RFC has. Numbers and no enum, so
-// that the table is a byte string: document 01 has it as a constant table of 256 classes.
+// 9 is a byte that only continues a character, UTF8-tail, and 10 one that no rule of the RFC has. Numbers and no enum: so the
+// table is a byte string, which can be lent as one constant.
 ghost use Rattle.std.specs.Prelude.{◌≡◌};
 ghost use Rattle.utf8.specs.Classes.{class_of, ClassTable};
 

@@ -7,11 +7,13 @@
 
 mod character;
 mod classes;
+mod plain;
 
 ghost use Rattle.std.specs.Prelude.{◌≡◌, drop};
 ghost use Rattle.utf8.specs.Rfc3629.{octets_from};
 
 use crate::classes::{CLASSES, Classes};
+pub use plain::{are_plain, is_plain};
 
 // Why bytes are no text: the first ill-formed sequence begins at this byte, and all before it is well formed.
 #[derive(Clone, Copy, Debug, PartialEq, Eq)]

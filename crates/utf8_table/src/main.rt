@@ -23,8 +23,8 @@ fn well_formed_up_to(text: &[u8]) -> usize {
     }
 }
 
-// How many of the numbers from low on and below high are well formed up to end, as the string of
-// their last bytes, the highest first, but for so many of the four.
+// A number below 2^32 stands for a string: of its four bytes, the highest first, those from index start on. How many of the
+// numbers from low on and below high stand for a string that is well formed up to index end and no further.
 fn count(low: u64, high: u64, start: usize, end: usize) -> usize
     requires { start ≤ 4 }
 {

@@ -83,7 +83,7 @@ impl<'a> RightPart<'a> {
     // The place at or before its end where no character is open.
     fn shut_end(self) -> usize
         ensures upper_bound { result ≤ length self.entry.text.now }
-        ensures text_value { octets_from 0 result (drop result self.entry.text.now) ≡ utf8_of self.entry.text.now }
+        ensures same_answer { octets_from 0 result (drop result self.entry.text.now) ≡ utf8_of self.entry.text.now }
     {
         let text = self.text;
         let end = self.end;
@@ -106,9 +106,9 @@ impl<'a> RightPart<'a> {
 // A place up to which the text is well formed, its end if it is so throughout, as far as blocks tell. Up to `at` it is ASCII.
 pub fn passed(text: &[u8], at: usize) -> usize
     requires at_in_bounds { at ≤ length text.now }
-    requires by_index { (i : ℕ) → i < at → slice_index text.now i < 0x80 }
+    requires ascii { (i : ℕ) → i < at → slice_index text.now i < 0x80 }
     ensures upper_bound { result ≤ length text.now }
-    ensures text_value { octets_from 0 result (drop result text.now) ≡ utf8_of text.now }
+    ensures same_answer { octets_from 0 result (drop result text.now) ≡ utf8_of text.now }
 {
     if text.len() < SHORTEST {
         return at;

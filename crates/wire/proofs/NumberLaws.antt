@@ -3,7 +3,7 @@
 use mathlib.Core.Path.{◌≡◌, refl, ap, ◌∙◌}
 use mathlib.Core.List.{List, [], ◌∷◌, ◌++◌}
 use Prim.Native.Nat.{ℕ, zero, suc, ◌+◌, ◌*◌, ◌/◌, ◌%◌, ◌^◌, ◌≤◌, ◌<◌}
-use native.Mathlib.Nat.{zero-add, suc-add, mul-zero, one-mul, pow-suc, pow-succ', mul_assoc, add_assoc, add-zero, le_of_suc-le-suc, not-suc-le-zero, mod-add-div, div-lt_iff_lt-mul, div-div-eq-div-mul, one-le-pow, mod-lt, div-one}
+use native.Mathlib.Nat.{zero-add, suc-add, mul-zero, one-mul, pow-suc, pow-succ', mul_assoc, add_assoc, add-zero, le_of_suc-le-suc, not-suc-le-zero, mod-add-div, div-lt_iff_lt-mul, one-le-pow, mod-lt}
 use native.Mathlib.Omega.{arith}
 use native.Mathlib.Numerals.{add-one}
 use lib.Arith.{digits_div, digits_mod, mod-mul}
@@ -50,13 +50,6 @@ u32-bytes p at =
 
 pub ruleset number_bytes = (u16-bytes, u32-bytes)
 
--- bytes after the width do not count
-pub little_endian-prefix : (w : ℕ) (s t : List ℕ) → w ≤ length s → little_endian w (s ++ t) ≡ little_endian w s
-unfolding little_endian
-little_endian-prefix zero s t h = refl
-little_endian-prefix (suc w) [] t h = absurd (not-suc-le-zero h)
-little_endian-prefix (suc w) (b ∷ s) t h = ap (λ (n : ℕ). b + 256 * n) (little_endian-prefix w s t (le_of_suc-le-suc h))
-
 -- a number of a width is below 256 to the width
 pub little_endian-below : (w : ℕ) (s : List ℕ) → ((k : ℕ) → get_or s k 0 < 256) → little_endian w s < 256 ^ w
 unfolding little_endian
@@ -78,12 +71,6 @@ unfolding bytes_of
 bytes_of-below zero n k = lit< tt
 bytes_of-below (suc w) n zero = mod-lt n (lit< tt)
 bytes_of-below (suc w) n (suc k) = bytes_of-below w (n / 256) k
-
--- a number's bytes are its low bytes, and then its high ones
-pub bytes_of-add : (v w n : ℕ) → bytes_of (v + w) n ≡ bytes_of v n ++ bytes_of w (n / 256 ^ v)
-unfolding bytes_of
-bytes_of-add zero w n = rw (zero-add, div-one)
-bytes_of-add (suc v) w n = rw (suc-add, pow-succ', ← div-div-eq-div-mul) (ap (λ (s : List ℕ). n % 256 ∷ s) (bytes_of-add v w (n / 256)))
 
 -- what does not fit the width does not count
 pub bytes_of-low : (w n : ℕ) → bytes_of w (n % 256 ^ w) ≡ bytes_of w n

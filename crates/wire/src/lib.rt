@@ -12,5 +12,5 @@ mod padding;
 
 pub use bytes::write_bytes;
 pub use length::{TextLength, WireSize};
-pub use number::{read_u16, read_u32, write_u16, write_u32};
+pub use number::{read_u16, read_u32, write_array, write_u16, write_u32};
 pub use padding::{align4, padding_length, write_zeros, zeros};

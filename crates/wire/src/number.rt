@@ -35,7 +35,7 @@ fn last_bytes<const N: usize>(rest: &[u8]) -> [u8; N]
 
 // Stores so many bytes from `offset` on, as many as fit.
 #[tactic(auto, using(crate::proofs::Sets::stores))]
-fn write_array<const N: usize>(output: &mut [u8], offset: usize, bytes: [u8; N])
+pub fn write_array<const N: usize>(output: &mut [u8], offset: usize, bytes: [u8; N])
     ensures { output.new ≡ sets output.old offset bytes.entry }
 {
     if offset < output.len() {

@@ -27,16 +27,16 @@ use Rattle.format.specs.Encoding.{limit, stored_bytes, body_header, kind_of, enc
 use Rattle.format.specs.Resolve.{begun, content_of, name_of, pair_of}
 use Rattle.format.specs.Sections.{Section}
 use Rattle.format.proofs.Encoding.{length-content_entry, length-name_entry, length-pair_entry}
+use Rattle.format.proofs.RowsByTag.{leading-count}
 use Rattle.format.proofs.SectionBytes.{start, filled, length-section}
 use Rattle.frames.specs.Frame.{framed, contents_header, names_header, arguments_header}
 use Rattle.frames.proofs.Closed.{closed-size, section-closed}
 use Rattle.write.specs.declared.position.Position.{Position}
-use Rattle.write.specs.Position.{standing}
 use Rattle.write.specs.Run.{row_bytes, run_bytes}
-use Rattle.write.specs.Source.{rows, section, after, MayWrite}
+use Rattle.write.specs.Source.{rows, section, MayWrite}
 use Rattle.write.specs.declared.source.Source.{Source}
 use Rattle.write.specs.Section.{entry_count, entries_of, section_at, next_section}
-use Rattle.write.proofs.RunLaws.{run-contents, run-names, run-pairs, count-leading}
+use Rattle.write.proofs.RunLaws.{run-contents, run-names, run-pairs}
 
 -- a section's kind, and its body header for so many stored bytes
 pub record Headed (s : Section) (k : SourceInfoSectionType) (header : ℕ → List ℕ) : Type 0 where
@@ -128,6 +128,9 @@ module _ {source : Source} {t : Tag} {p : Position} (m : MayWrite source (Some t
   abbrev this : Section
   this = section source p
 
+  begun_at : start this ≡ headers_size t
+  begun_at = starts source.sides.payload.now source.sides.edit.now (rows source) p.index t m.begins m.writable.1
+
   -- its stored bytes end within the limit
   pub fits : p.at + headers_size t + length (stored_bytes this) ≤ limit
   fits = within _ _ (rows source) p.index t m.begins m.writable.1 p.at m.writable.4
@@ -152,23 +155,25 @@ module _ {source : Source} {t : Tag} {p : Position} (m : MayWrite source (Some t
   pub onward : next_section (rows source) p.index ≡ p.index + 1 + entries_of (Some t) (drop (p.index + 1) (rows source))
   onward = rw m.writable.1
 
-  -- what its writer answers and leaves, once what it stores is stored, and closed
-  pub told :
+  -- how many bytes it has
+  pub written-size : length (encode_section this) ≡ aligned (p.at + headers_size t + length (stored_bytes this) - p.at)
+  written-size = sym (closed-size this p.at {end = p.at + headers_size t + length (stored_bytes this)} (omega (arith, begun_at)))
+
+  -- what it stores, closed, is the section
+  pub closed :
       {k : SourceInfoSectionType} {header : ℕ → List ℕ} →
       Headed this k header →
-      (l : List ℕ) {start end i a : ℕ} {whole : List ℕ} →
+      (l : List ℕ) {start end : ℕ} {whole : List ℕ} →
       start ≡ p.at →
       end ≡ p.at + headers_size t + length (stored_bytes this) →
-      i ≡ next_section (rows source) p.index →
-      a ≡ start + aligned (end - start) →
       whole ≡ framed (sets l (p.at + headers_size t) (stored_bytes this)) start end k (header (end - (start + headers_size t))) →
-      (standing i a ≡ after source p) × (whole ≡ sets l p.at (encode_section this))
-  told h l {end = end} from ends index after closed =
-      let starts = starts source.sides.payload.now source.sides.edit.now (rows source) p.index t m.begins m.writable.1 in
-      let span : end ≡ p.at + filled this = omega (arith, starts) in (
-        rw (index, after, from, closed-size this p.at span),
-        cc (starts, h.kinded, h.headed (end - (p.at + headers_size t)), section-closed this p.at span l),
-      )
+      whole ≡ sets l p.at (encode_section this)
+  closed h l {end = end} from ends around =
+      let span : end ≡ p.at + filled this = omega (arith, begun_at) in
+      cc (begun_at, h.kinded, h.headed (end - (p.at + headers_size t)), section-closed this p.at span l)
+
+-- where the position moves to
+pub ruleset moved = (written-size)
 
 -- ---- what stands around the stored bytes of a section, by its tag
 
@@ -181,7 +186,7 @@ module _ (source : Source) (p : Position) where
 
   pub plain-headed : MayWrite source (Some tag.PlainContents) p → Headed (section source p) kind.SourceContents (λ n. contents_header begun-by.a (compression_number compression.None) n n (entries tag.PlainContents))
   unfolding begun body_header kind_of
-  plain-headed m = rw m.writable.1 (record { kinded = refl; headed = λ n. rw (count-leading (Some tag.Content) (content_of source.sides.payload.now source.sides.edit.now) (drop (p.index + 1) (rows source))) })
+  plain-headed m = rw m.writable.1 (record { kinded = refl; headed = λ n. rw (leading-count (Some tag.Content) (content_of source.sides.payload.now source.sides.edit.now) (drop (p.index + 1) (rows source))) })
 
   pub packed-headed : MayWrite source (Some tag.PackedContents) p → Headed (section source p) kind.SourceContents (λ n. contents_header begun-by.a (compression_number compression.Zlib) n begun-by.e begun-by.d)
   unfolding begun body_header kind_of
@@ -189,11 +194,11 @@ module _ (source : Source) (p : Position) where
 
   pub names-headed : MayWrite source (Some tag.Names) p → Headed (section source p) kind.SourceNames (λ n. names_header n (entries tag.Names))
   unfolding begun body_header kind_of
-  names-headed m = rw m.writable.1 (record { kinded = refl; headed = λ n. rw (count-leading (Some tag.Name) (name_of source.sides.payload.now source.sides.edit.now) (drop (p.index + 1) (rows source))) })
+  names-headed m = rw m.writable.1 (record { kinded = refl; headed = λ n. rw (leading-count (Some tag.Name) (name_of source.sides.payload.now source.sides.edit.now) (drop (p.index + 1) (rows source))) })
 
   pub arguments-headed : MayWrite source (Some tag.Arguments) p → Headed (section source p) kind.Arguments (λ n. arguments_header n (entries tag.Arguments))
   unfolding begun body_header kind_of
-  arguments-headed m = rw m.writable.1 (record { kinded = refl; headed = λ n. rw (count-leading (Some tag.Pair) (pair_of source.sides.payload.now source.sides.edit.now) (drop (p.index + 1) (rows source))) })
+  arguments-headed m = rw m.writable.1 (record { kinded = refl; headed = λ n. rw (leading-count (Some tag.Pair) (pair_of source.sides.payload.now source.sides.edit.now) (drop (p.index + 1) (rows source))) })
 
   pub unknown-headed : MayWrite source (Some tag.Unknown) p → Headed (section source p) (kind.Unknown begun-by.a) (λ n. [])
   unfolding begun body_header kind_of

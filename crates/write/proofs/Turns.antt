@@ -2,18 +2,17 @@
 -- after each turn, and where no row is left it says the whole.
 -- Assumes nothing.
 use Rattle.std.specs.Prelude.{is_ok, Option}
-use Prim.Native.Nat.{ℕ, ◌+◌, ◌-◌, ◌/◌, ◌≤◌, ◌<◌, ◌^◌}
+use Prim.Native.Nat.{ℕ, ◌+◌, ◌≤◌, ◌<◌, ◌^◌}
 use mathlib.Core.Bool.{true}
 use mathlib.Core.List.{List, [], flat_map}
 use mathlib.Core.Path.{◌≡◌, refl, sym, ap, ◌∙◌}
 use native.Mathlib.Omega.{arith}
 use lib.ListN.{length, get_or, drop, drop_of_length-le}
 use lib.Seq.{sets, length-sets}
-use Rattle.table.specs.Rows.{rows_of, no_row}
+use Rattle.table.specs.Rows.{no_row}
 use Rattle.table.specs.Tags.{tag_of, opens_section}
 use Rattle.table.specs.declared.row.Row.{Row}
 use Rattle.table.specs.declared.tag.Tag.{Tag}
-use Rattle.table.proofs.Rows.{length-rows_of}
 use Rattle.format.specs.Encoding.{encode_section}
 use Rattle.format.specs.Resolve.{sections_of}
 use Rattle.format.specs.Sections.{Section}
@@ -21,9 +20,6 @@ use Rattle.format.specs.Write.{written}
 use Rattle.write.specs.Position.{standing, Writable, past, section_bytes}
 use Rattle.write.specs.declared.position.Position.{Position}
 use Rattle.write.proofs.SectionLaws.{Left, Next, next-section, next-stored, all_left}
-
--- the whole rows of a table are counted by its numbers
-pub ruleset rows_counted = (length-rows_of)
 
 module _ (payload edit : List ℕ) (rows : List Row) (output₀ : List ℕ) where
   -- the sections of the rows from an index on

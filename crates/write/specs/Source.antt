@@ -1,5 +1,5 @@
 -- A source: its rows, its sections, and the section that the row at a position begins.
-use Rattle.std.specs.Prelude.{List, true, ◌≡◌, Option}
+use Rattle.std.specs.Prelude.{ℕ, List, drop, true, ◌≡◌, Option}
 use Rattle.table.specs.Rows.{rows_of}
 use Rattle.table.specs.Tags.{opens_section}
 use Rattle.table.specs.declared.row.Row.{Row}
@@ -7,6 +7,7 @@ use Rattle.table.specs.declared.tag.Tag.{Tag}
 use Rattle.format.specs.Resolve.{sections_of}
 use Rattle.format.specs.Sections.{Section}
 use Rattle.write.specs.Position.{Writable, past}
+use Rattle.write.specs.Run.{row_bytes, run_bytes}
 use Rattle.write.specs.Section.{section_at}
 use Rattle.write.specs.declared.position.Position.{Position}
 use Rattle.write.specs.declared.source.Source.{Source}
@@ -16,6 +17,13 @@ rows s = rows_of s.rows.now
 
 abbrev pub all_sections : Source → List Section
 all_sections s = sections_of s.sides.payload.now s.sides.edit.now (rows s)
+
+-- the entry that a row of a tag is, and the entries that the rows of a tag are, from an index on
+abbrev pub entry_of : Source → Tag → Row → List ℕ
+entry_of s t r = row_bytes s.sides.payload.now s.sides.edit.now t r
+
+abbrev pub run_from : Source → Tag → ℕ → List ℕ
+run_from s t first = run_bytes s.sides.payload.now s.sides.edit.now t (drop first (rows s))
 
 abbrev pub section : Source → Position → Section
 section s p = section_at s.sides.payload.now s.sides.edit.now (rows s) p.index

@@ -1,6 +1,7 @@
 // Entries of contents and of names, and pairs, stored at a place of the output: the text first, and then what stands
-// around it (crate frames). Each answers the place after it. A content and a name differ in their header and in what closes
-// them, so one function of both would need a flag for each. Crate from_sheet has the same of escaped fields, and says why.
+// around it (crate frames). Each answers the place after it. A content and a name differ in the size of their
+// header and in what closes them, so one function of both would match an `EntryKind` twice. Crate from_sheet has the same of
+// escaped fields, and says why. The bound is of what each function stores, as in crate to_sheet, so that no type could hold it.
 ghost use Rattle.std.specs.Prelude.{◌≡◌, ◌+◌, ◌≤◌, length};
 ghost use Rattle.std.proofs.lemmas.List.Edits.{sets};
 ghost use Rattle.wire.specs.Length.{wire_size};

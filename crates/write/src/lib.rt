@@ -27,15 +27,12 @@ pub fn write(payload: &[u8], edit: &[u8], rows: &[u32], output: &mut [u8]) -> An
     ensures value { result ≡ write_answer payload.now edit.now rows.now (length output.old) }
     ensures output_after { output.new ≡ write_output payload.now edit.now rows.now output.old }
 {
-    let size = rows::measure(payload, edit, rows)?;
+    let sides = Sides { payload, edit };
+    let size = rows::measure(sides, rows)?;
     let room = output.len();
     if room < size as usize {
         return Err(Refusal::NoRoom(size));
     }
-    let source = Source {
-        sides: Sides { payload, edit },
-        rows,
-    };
-    source_info::write_srci(&source, output, size);
+    source_info::write_srci(&Source { sides, rows }, output, size);
     Ok(size)
 }

@@ -1,5 +1,5 @@
-// Where writing stands: the row that is written next, and the place of the output where it goes. One position is lent to
-// each section writer, which moves it on past its section.
+// Where writing stands: the place of the output, which document 01 lends to each section writer, to be moved on past its
+// section; and with it the index of the row that is written next there.
 #[derive(Clone, Copy)]
 pub struct Position {
     pub index: usize,

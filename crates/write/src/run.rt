@@ -3,21 +3,20 @@ ghost use Rattle.std.specs.Prelude.{◌≡◌, ◌+◌, ◌≤◌, length, drop,
 ghost use Rattle.std.proofs.lemmas.List.Edits.{sets};
 ghost use Rattle.table.specs.Tags.{tag_of, same_tag};
 ghost use Rattle.format.specs.Encoding.{limit};
-ghost use Rattle.write.specs.Run.{row_bytes, run_bytes};
 ghost use Rattle.write.specs.Section.{entry_count};
-ghost use Rattle.write.specs.Source.{rows};
+ghost use Rattle.write.specs.Source.{rows, entry_of, run_from};
 
 use crate::entry::{write_content, write_name, write_pair};
 use crate::position::Position;
 use crate::source::Source;
 use table::{Row, Tag};
 
-// Stores the entry that a row of a tag is, and answers the place after it.
+// Stores the entry that a row of a tag is, and answers the place after it. The run's tag is known, and the row's is its number.
 #[tactic(auto, unfolding(crate::specs::Run::row_bytes))]
 fn write_row(source: &Source, tag: Tag, row: Row, output: &mut [u8], at: usize) -> usize
-    requires { at + length (row_bytes source.now.sides.payload.now source.now.sides.edit.now tag row) ≤ limit }
-    ensures value { result ≡ at + length (row_bytes source.now.sides.payload.now source.now.sides.edit.now tag row) }
-    ensures output_after { output.new ≡ sets output.old at (row_bytes source.now.sides.payload.now source.now.sides.edit.now tag row) }
+    requires { at + length (entry_of source.now tag row) ≤ limit }
+    ensures value { result ≡ at + length (entry_of source.now tag row) }
+    ensures output_after { output.new ≡ sets output.old at (entry_of source.now tag row) }
 {
     match tag {
         Tag::Content => write_content(output, at, source.text(row)),
@@ -36,7 +35,9 @@ fn is_of(row: Row, tag: Tag) -> bool
     Tag::from_u32(row.tag) == Some(tag)
 }
 
-// Stores the entries that the rows of a tag are, from an index on, at a place and on. Answers the position after them.
+// Stores the entries that the rows of a tag are, from an index on, at a place and on. Answers the position after them. By
+// index, which the position that is answered holds: crate table's iterator begins at the first row alone, and of one that
+// began at `first` an `enumerate` would count from 0 again.
 #[tactic(auto, using(crate::proofs::RunLaws::run_steps))]
 pub fn write_run(
     source: &Source,
@@ -46,10 +47,10 @@ pub fn write_run(
     start: usize,
 ) -> Position
     requires first_in_bounds { first ≤ length (rows source.now) }
-    requires rows_bound { start + length (run_bytes source.now.sides.payload.now source.now.sides.edit.now tag (drop first (rows source.now))) ≤ limit }
+    requires bound { start + length (run_from source.now tag first) ≤ limit }
     ensures index_value { result.index ≡ first + entry_count (Some tag) (drop first (rows source.now)) }
-    ensures at_value { result.at ≡ start + length (run_bytes source.now.sides.payload.now source.now.sides.edit.now tag (drop first (rows source.now))) }
-    ensures output_after { output.new ≡ sets output.old start (run_bytes source.now.sides.payload.now source.now.sides.edit.now tag (drop first (rows source.now))) }
+    ensures at_value { result.at ≡ start + length (run_from source.now tag first) }
+    ensures output_after { output.new ≡ sets output.old start (run_from source.now tag first) }
 {
     let count = source.count();
     let mut at = start;

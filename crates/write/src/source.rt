@@ -5,7 +5,6 @@ ghost use Rattle.table.specs.Rows.{rows_of, no_row, bytes_span, text_span, value
 
 use layout::Sides;
 use table::Row;
-use wire::TextLength;
 
 #[derive(Clone, Copy)]
 pub struct Source<'a> {
@@ -14,12 +13,11 @@ pub struct Source<'a> {
 }
 
 impl<'a> Source<'a> {
-    // How many rows there are. Numbers of the table past its last whole row are none.
-    #[tactic(auto, using(crate::proofs::Turns::rows_counted))]
+    // How many rows there are.
     pub fn count(&self) -> usize
         ensures { result ≡ length (rows_of self.now.rows.now) }
     {
-        self.rows.len() / Row::WIDTH
+        Row::count(self.rows)
     }
 
     pub fn row(&self, index: usize) -> Row
@@ -32,20 +30,20 @@ impl<'a> Source<'a> {
     pub fn text(&self, row: Row) -> &'a [u8]
         ensures { result.now ≡ span_bytes self.now.sides.payload.now self.now.sides.edit.now (text_span row) }
     {
-        self.sides.text_of(row.side, row.a, TextLength(row.b))
+        self.sides.bytes_of(row.text_span())
     }
 
     // The value that a pair's row names.
     pub fn value(&self, row: Row) -> &'a [u8]
         ensures { result.now ≡ span_bytes self.now.sides.payload.now self.now.sides.edit.now (value_span row) }
     {
-        self.sides.text_of(row.side, row.c, TextLength(row.d))
+        self.sides.bytes_of(row.value_span())
     }
 
     // The bytes that the row of a packed or an unknown section names.
     pub fn bytes(&self, row: Row) -> &'a [u8]
         ensures { result.now ≡ span_bytes self.now.sides.payload.now self.now.sides.edit.now (bytes_span row) }
     {
-        self.sides.bytes_of(row.side, row.b, row.c)
+        self.sides.bytes_of(row.bytes_span())
     }
 }

@@ -31,8 +31,9 @@ fn write_section(source: &Source, output: &mut [u8], position: &mut Position)
     }
 }
 
-// All sections, after the main header. Answers how many they are. The one position is made here, lent for each section,
-// and stands past the last one where no row is left; a turn moves it on by a whole section, so no range gives its index, and how many there are is known as they are written.
+// All sections, after the main header. Answers how many they are. The one position is made here, lent for each section, and
+// stands past the last one where no row is left. A turn moves it on by a whole section, so no range gives its index, and how
+// many sections there are is known as they are written.
 fn write_sections(source: &Source, output: &mut [u8]) -> u16
     requires { is_ok (written source.now.sides.payload.now source.now.sides.edit.now (rows source.now)) ≡ true }
     ensures value { result ≡ length (all_sections source.now) }
@@ -52,13 +53,12 @@ fn write_sections(source: &Source, output: &mut [u8]) -> u16
 }
 
 // The payload that rows are written as, of so many bytes, from the output's start on.
+#[tactic(auto, using(frames::proofs::PayloadClosed::payload_closed))]
 pub fn write_srci(source: &Source, output: &mut [u8], size: u32)
-    requires rows_value { is_ok (written source.now.sides.payload.now source.now.sides.edit.now (rows source.now)) ≡ true }
+    requires rows_ok { is_ok (written source.now.sides.payload.now source.now.sides.edit.now (rows source.now)) ≡ true }
     requires size_value { size ≡ length (encode (all_sections source.now)) }
     ensures { output.new ≡ sets output.old 0 (encode (all_sections source.now)) }
 {
     let sections = write_sections(source, output);
-    wire::write_u32(output, 0, size);
-    wire::write_u16(output, 4, 0);
-    wire::write_u16(output, 6, sections);
+    frames::close_payload(output, size, sections);
 }

@@ -14,6 +14,7 @@ use layout::{SourceCompression, SourceInfoSectionType};
 use table::Tag;
 
 // Arguments.
+#[tactic(auto, using(crate::proofs::SectionParts::moved))]
 pub fn write_arguments(source: &Source, output: &mut [u8], position: &mut Position)
     requires { MayWrite source.now (Some tag.Arguments) position.old }
     ensures position_after { position.new ≡ after source.now position.old }
@@ -28,6 +29,7 @@ pub fn write_arguments(source: &Source, output: &mut [u8], position: &mut Positi
 }
 
 // Names.
+#[tactic(auto, using(crate::proofs::SectionParts::moved))]
 pub fn write_names(source: &Source, output: &mut [u8], position: &mut Position)
     requires { MayWrite source.now (Some tag.Names) position.old }
     ensures position_after { position.new ≡ after source.now position.old }
@@ -42,6 +44,7 @@ pub fn write_names(source: &Source, output: &mut [u8], position: &mut Position)
 }
 
 // Plain contents.
+#[tactic(auto, using(crate::proofs::SectionParts::moved))]
 pub fn write_plain(source: &Source, output: &mut [u8], position: &mut Position)
     requires { MayWrite source.now (Some tag.PlainContents) position.old }
     ensures position_after { position.new ≡ after source.now position.old }
@@ -66,6 +69,7 @@ pub fn write_plain(source: &Source, output: &mut [u8], position: &mut Position)
 }
 
 // Packed contents.
+#[tactic(auto, using(crate::proofs::SectionParts::moved))]
 pub fn write_packed(source: &Source, output: &mut [u8], position: &mut Position)
     requires { MayWrite source.now (Some tag.PackedContents) position.old }
     ensures position_after { position.new ≡ after source.now position.old }
@@ -89,6 +93,7 @@ pub fn write_packed(source: &Source, output: &mut [u8], position: &mut Position)
 }
 
 // A section of an unknown kind.
+#[tactic(auto, using(crate::proofs::SectionParts::moved))]
 pub fn write_unknown(source: &Source, output: &mut [u8], position: &mut Position)
     requires { MayWrite source.now (Some tag.Unknown) position.old }
     ensures position_after { position.new ≡ after source.now position.old }

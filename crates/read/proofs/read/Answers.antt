@@ -3,6 +3,7 @@
 use Rattle.std.proofs.Common.{ℕ, ◌/◌, ◌≤◌, List, length, ap, sym, ◌∙◌, arith, Err, Ok, is_ok}
 use Rattle.std.proofs.lemmas.Result.{err_from_is_err_and}
 use Rattle.table.specs.Rows.{width}
+use Rattle.table.proofs.Rows.{length-rows_of}
 use Rattle.table.specs.declared.row.Row.{Row}
 use Rattle.layout.specs.declared.refusal.Refusal.TheVariants.{NoRows}
 use Rattle.layout.proofs.Checked.{taking-ok, taking-err}
@@ -18,10 +19,10 @@ returns-in_err-count c =
     let all = refused c.args.payload.now c.args.rows.now (taking-err length _ _ (sym c.in_err-count.ensures)) in
     rw (p.1, p.2) (record { value = sym all.0; rows_after = sym all.1 })
 
-pub returns-then-rows-count : goal.returns-then-rows-count
-returns-then-rows-count c =
+pub returns-then-count : goal.returns-then-count
+returns-then-count c =
     let (rs, is, count) = taking-ok length _ _ (sym c.in_ok-count.ensures) in
-    let short = too_few c.args.payload.now c.args.rows.now is (omega (arith, count)) in
+    let short = too_few c.args.payload.now c.args.rows.now is (omega (arith, count, length-rows_of c.args.rows.now)) in
     record { value = ap (λ (k : ℕ). Err (NoRows k)) (sym count) ∙ sym short.0; rows_after = sym short.1 }
 
 pub invariant_of-checked-clause-accepted : goal.invariant_of-checked-clause-accepted
@@ -32,7 +33,7 @@ invariant_of-checked-clause-accepted c =
 pub returns : goal.returns
 returns c =
     let (rs, is, count) = taking-ok length _ _ (sym c.in_ok-count.ensures) in
-    let room : length rs ≤ length c.args.rows.now / width = omega (arith, count) in
+    let room : length rs ≤ length c.args.rows.now / width = omega (arith, count, length-rows_of c.args.rows.now) in
     let all = held c.args.payload.now c.args.rows.now is room in
     record {
       value = ap Ok (sym count) ∙ sym all.0;

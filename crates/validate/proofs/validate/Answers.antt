@@ -5,7 +5,7 @@ use Rattle.validate.proofs.Runs.{after-ascii}
 use Rattle.validate.proofs.validate.Goals as goal
 
 pub returns-then-at-text : goal.returns-then-at-text
-returns-then-at-text c = sym (ended _ _ (omega arith)) ∙ after-ascii _ _ (omega arith) c.run_end-at.ensures.by_index
+returns-then-at-text c = sym (ended _ _ (omega arith)) ∙ after-ascii _ _ (omega arith) c.run_end-at.ensures.ascii
 
 pub returns-then-from-text : goal.returns-then-from-text
-returns-then-from-text c = sym (ended _ _ (omega arith)) ∙ c.passed-from.ensures.text_value
+returns-then-from-text c = sym (ended _ _ (omega arith)) ∙ c.passed-from.ensures.same_answer

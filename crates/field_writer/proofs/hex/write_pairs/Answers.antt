@@ -15,7 +15,7 @@ loop-i-preserved c =
     let bytes = c.args.bytes.now in
     let i = c.loop-i.i in
     let pair = hex_pair (get_or bytes i 0) in
-    let stored : c.write_u16.new.output ≡ sets c.loop-i.output (c.args.at + 2 * i) pair = cc in
+    let stored : c.write_array.new.output ≡ sets c.loop-i.output (c.args.at + 2 * i) pair = cc in
     left-next pair (hex_pairs (drop (i + 1) bytes)) (pairs_next bytes i (omega arith)) c.loop-i.invariant (omega arith) stored
 
 pub returns : goal.returns

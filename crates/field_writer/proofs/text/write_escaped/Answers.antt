@@ -1,19 +1,18 @@
 -- `field_writer::text::write_escaped` meets its contract: a turn stores an escaped byte, or a run of bytes that stand for themselves.
 use Rattle.std.proofs.Common.{ap, arith, get_or, length, rules, sym, take, [], ◌∷◌, ◌∙◌, ◌≡◌}
 use lib.Seq.{length-take-le}
-use Rattle.wire.specs.Number.{bytes_of}
 use Rattle.std.proofs.lemmas.List.Edits.{sets}
 use Rattle.format.proofs.Storing.{left-next, left-none}
 use Rattle.sheet.specs.Fields.{backslash, escaped, escape}
-use Rattle.field_writer.proofs.Fields.{from, length-from, some-letter, escape-next, escape_end, run-within, run-stands}
+use Rattle.find.proofs.Rest.{from, length-from}
+use Rattle.field_writer.proofs.Fields.{some-letter, escape-next, escape_end, run-within, run-stands}
 use Rattle.field_writer.proofs.text.write_escaped.Goals as goal
 
 pub loop-rest-preserved-in-Some : goal.loop-rest-preserved-in-Some
-unfolding bytes_of
 loop-rest-preserved-in-Some c =
     let rest = c.loop-rest.rest.now in
     let two = some-letter (get_or rest 0 0) c.in-Some.second (sym c.letter.ensures ∙ c.in-Some.is) in
-    let stored : c.write_u16.new.output ≡ sets c.loop-rest.output c.loop-rest.to (backslash ∷ c.in-Some.second ∷ []) = search rules in
+    let stored : c.write_array.new.output ≡ sets c.loop-rest.output c.loop-rest.to (backslash ∷ c.in-Some.second ∷ []) = search rules in
     record {
       most = omega (arith, length-from 1 rest, c.loop-rest.invariant.most);
       left = left-next (escaped (get_or rest 0 0)) (escape (from 1 rest)) (escape-next rest c.in-len1-up.len_at_least) c.loop-rest.invariant.left (omega (arith, ap length two)) (rw two stored);

@@ -4,10 +4,10 @@ use Rattle.find.specs.Find.{until, is_any}
 use Rattle.find.proofs.find.after_blocks.Given as goal
 
 abbrev pub invariant-loop-block : goal.invariant-loop-block
-invariant-loop-block l = record {
+invariant-loop-block g l = record {
   shorter : length l.rest ≤ length l.bytes;
-  passed : until (is_any l.one l.two l.three) l.bytes + length l.rest ≡ length l.bytes + until (is_any l.one l.two l.three) l.rest;
+  passed : until (is_any l.sought) l.bytes + length l.rest ≡ length l.bytes + until (is_any l.sought) l.rest;
 }
 
 abbrev pub decreases-loop-block : goal.decreases-loop-block
-decreases-loop-block l = length l.rest
+decreases-loop-block g l = length l.rest

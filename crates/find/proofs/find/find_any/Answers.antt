@@ -5,4 +5,4 @@ use Rattle.find.proofs.FindLaws.{until-least}
 use Rattle.find.proofs.find.find_any.Goals as goal
 
 pub overflow_add-result : goal.overflow_add-result
-overflow_add-result c = let a = c.args in omega (arith, until-least (is_any a.one a.two a.three))
+overflow_add-result g c = let a = c.args in omega (arith, until-least (is_any c.args.sought.now))

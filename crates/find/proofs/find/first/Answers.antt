@@ -7,8 +7,8 @@ use Rattle.find.proofs.FindLaws.{position-until}
 use Rattle.find.proofs.find.first.Goals as goal
 
 pub returns : goal.returns
-returns c =
+returns g c =
     let a = c.args in
-    position-until (is_any a.one a.two a.three) a.bytes.now c.position.result c.unwrap_or.result
-    (position_from_yields_List (is_any a.one a.two a.three) _ _ c.position.result c.position.ensures.ran (YieldsList-from_slice a.bytes.now cc) (λ x b q k. search (rules, tests)))
+    position-until (is_any c.args.sought.now) a.bytes.now c.position.result c.unwrap_or.result
+    (position_from_yields_List (is_any c.args.sought.now) _ _ c.position.result c.position.ensures.ran (YieldsList-from_slice a.bytes.now cc) (λ x b q k. search (rules, tests)))
     c.unwrap_or.ensures

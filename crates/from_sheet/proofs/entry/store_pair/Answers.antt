@@ -10,17 +10,13 @@ use Rattle.sheet.specs.Fields.{unescape}
 use Rattle.from_sheet.proofs.entry.store_pair.Goals as goal
 
 pub store_text-next-requires : goal.store_text-next-requires
-store_text-next-requires c =
-    let size = length-pair_entry (pair (unescape c.args.key.now) (unescape c.args.value.now)) in
-    record { field_in_bounds = omega (arith, size); field_bound = omega (arith, size) }
+store_text-next-requires c = omega (arith, length-pair_entry (pair (unescape c.args.key.now) (unescape c.args.value.now)))
 
 pub overflow_cast-next : goal.overflow_cast-next
 overflow_cast-next c = omega (arith, length-pair_entry (pair (unescape c.args.key.now) (unescape c.args.value.now)))
 
 pub store_text-requires : goal.store_text-requires
-store_text-requires c =
-    let size = length-pair_entry (pair (unescape c.args.key.now) (unescape c.args.value.now)) in
-    record { field_in_bounds = omega (arith, size); field_bound = omega (arith, size) }
+store_text-requires c = omega (arith, length-pair_entry (pair (unescape c.args.key.now) (unescape c.args.value.now)))
 
 pub returns : goal.returns
 unfolding pair_entry

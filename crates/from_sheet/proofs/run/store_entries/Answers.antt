@@ -9,7 +9,7 @@ pub store_entry-to-requires : goal.store_entry-to-requires
 store_entry-to-requires c =
     let (own, is) = c.in-Some.ensures in
     let m = more (Some c.args.tag) c.in-Some.record c.next_of.new.self (ap Some own) is in
-    record { in_bounds = omega (arith, m.size, c.loop-record.invariant.left.ends); bound = omega (arith, m.size, c.loop-record.invariant.left.ends) }
+    omega (arith, m.size, c.loop-record.invariant.left.ends)
 
 pub loop-record-preserved : goal.loop-record-preserved
 loop-record-preserved c =

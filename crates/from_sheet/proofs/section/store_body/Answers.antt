@@ -3,13 +3,13 @@ use Rattle.std.proofs.Common.{sym, ap, ◌∙◌, length, arith}
 use Rattle.from_sheet.proofs.SectionParts.{packed-own, unknown-own, entries-stored, few-entries}
 use Rattle.from_sheet.proofs.section.store_body.Goals as goal
 
-pub write_unpaired-requires-clause-field_in_bounds : goal.write_unpaired-requires-clause-field_in_bounds
-write_unpaired-requires-clause-field_in_bounds c =
+pub write_unpaired-requires-clause-field_bound : goal.write_unpaired-requires-clause-field_bound
+write_unpaired-requires-clause-field_bound c =
     let own = packed-own c.args.record.now c.args.records.now _ c.in-PackedContents.ensures c.field.ensures.value in
     omega (arith, ap length own.stored)
 
-pub write_unpaired-requires-in-Unknown-clause-field_in_bounds : goal.write_unpaired-requires-in-Unknown-clause-field_in_bounds
-write_unpaired-requires-in-Unknown-clause-field_in_bounds c =
+pub write_unpaired-requires-in-Unknown-clause-field_bound : goal.write_unpaired-requires-in-Unknown-clause-field_bound
+write_unpaired-requires-in-Unknown-clause-field_bound c =
     let own = unknown-own c.args.record.now c.args.records.now _ c.in-Unknown.ensures c.field-in-Unknown.ensures.value in
     omega (arith, ap length own.stored)
 
@@ -41,7 +41,6 @@ store_entries-requires c =
     rw (c.in-Some.ensures, c.tag.ensures)
     (record {
       few = omega (arith, few-entries r.tag r rs c.requires.begins, c.requires.bound);
-      in_bounds = omega (arith, ap length stored, c.requires.in_bounds);
       bound = omega (arith, ap length stored, c.requires.bound);
     })
 

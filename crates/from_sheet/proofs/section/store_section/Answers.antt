@@ -13,7 +13,6 @@ store_body-body-requires c =
     rw (c.headers_size.ensures, c.tag.ensures)
     (record {
       begins = h.begins;
-      in_bounds = omega (arith, within, c.requires.in_bounds);
       bound = omega (arith, within, c.requires.bound);
     })
 

@@ -17,7 +17,6 @@ store_section-to-requires c =
     let all = ap (λ (l : List Record). length (flat_map encode_section (sections l))) c.in-Some.ensures.steps in
     record {
       order = order;
-      in_bounds = omega (arith, within, all, c.loop-record.invariant.left.ends);
       bound = omega (arith, within, all, c.loop-record.invariant.left.ends);
     }
 

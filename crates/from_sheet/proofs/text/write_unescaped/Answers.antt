@@ -1,13 +1,13 @@
 -- `write_unescaped` meets its contract: a turn stores the byte of an escape, or a run of bytes that stand for themselves.
-use Rattle.std.proofs.Common.{◌≡◌, ◌+◌, [], ◌∷◌, ℕ, refl, sym, ap, ◌∙◌, length, get_or, set, take, length-append, arith}
-use lib.Seq.{sets}
+use Rattle.std.proofs.Common.{◌+◌, [], ◌∷◌, ℕ, sym, ap, ◌∙◌, length, get_or, take, length-append, arith}
 use Rattle.format.proofs.Storing.{left-next, left-none}
 use Rattle.sheet.specs.Fields.{meant, unescape}
-use Rattle.from_sheet.proofs.Fields.{from, unescape-pair, unescape-end, run-found}
+use Rattle.find.proofs.Rest.{from}
+use Rattle.from_sheet.proofs.Fields.{unescape-pair, unescape-end, run-found}
 use Rattle.from_sheet.proofs.text.write_unescaped.Goals as goal
 
-pub bounds-output-to : goal.bounds-output-to
-bounds-output-to c =
+pub overflow_add-to : goal.overflow_add-to
+overflow_add-to c =
     let (inside, is) = unescape-pair c.loop-rest.rest.now (sym c.is_pair.ensures ∙ c.if-is_pair.true) in
     omega (arith, ap length is, c.loop-rest.invariant.ends)
 
@@ -16,8 +16,7 @@ loop-rest-preserved-then-is_pair c =
     let s = c.loop-rest.rest.now in
     let m = meant (get_or s 1 0) in
     let (inside, is) = unescape-pair s (sym c.is_pair.ensures ∙ c.if-is_pair.true) in
-    let stored : set c.loop-rest.output c.loop-rest.to c.meant_by.result ≡ sets c.loop-rest.output c.loop-rest.to (m ∷ []) = rw c.meant_by.ensures refl in
-    left-next (m ∷ []) (unescape (from 2 s)) is c.loop-rest.invariant (omega arith) stored
+    left-next (m ∷ []) (unescape (from 2 s)) is c.loop-rest.invariant (omega arith) (rw (← c.meant_by.ensures) c.write_array.ensures)
 
 pub overflow_add-run : goal.overflow_add-run
 overflow_add-run c =

@@ -5,13 +5,14 @@ use Rattle.std.specs.Option.{is_some}
 use borrow.Author.Tests.{ltb-true, ltb-false}
 use Rattle.std.proofs.lemmas.Result.{err_from_is_err_and}
 use Rattle.utf8.proofs.Laws.{well-formed, not-well-formed}
+use Rattle.utf8.proofs.PlainBytes.{plain_at}
 use Rattle.find.proofs.NulLaws.{some-nul}
 use Rattle.layout.proofs.PlainText.{plain_passes}
 use Rattle.layout.proofs.TextCheck.{whole-not-utf8, whole-inner-nul, whole-passed}
 use Rattle.layout.proofs.text_check.check_whole.Goals as goal
 
-pub returns-then-is_plain : goal.returns-then-is_plain
-returns-then-is_plain c = sym (plain_passes _ (λ k h. c.is_plain.ensures k h c.if-is_plain.true))
+pub returns-then-are_plain : goal.returns-then-are_plain
+returns-then-are_plain c = sym (plain_passes _ (plain_at _ (sym c.are_plain.ensures ∙ c.if-are_plain.true)))
 
 pub returns-in_err-validate : goal.returns-in_err-validate
 returns-in_err-validate c =

@@ -16,7 +16,7 @@ returns c =
     let some = eqb-false _ _ (sym c.is_empty.ensures ∙ c.if-is_empty.false) in
     c.read_digits.ensures ∙
     sym (number-spelt _ (omega arith)
-    (λ l. elim c.else-leading_zero.branch [
+    (λ l e. elim c.else-leading_zero.branch [
       | else-leading_zero-via-then-leading_zero+else-field-gt1 w ↦ omega arith
-      | else-leading_zero-via-else-leading_zero w ↦ omega arith
+      | else-leading_zero-via-else-leading_zero w ↦ w.if-leading_zero.false e
     ]))

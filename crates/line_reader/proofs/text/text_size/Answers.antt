@@ -1,6 +1,7 @@
 -- `text_size` meets its contract: first in the rest is an escape, or a run of bytes that stand for themselves.
 use Rattle.std.proofs.Common.{sym, ◌∙◌, arith}
-use Rattle.line_reader.proofs.SizeLaws.{from, length-from, text-done, text-plain, text-escape, text-bad}
+use Rattle.find.proofs.Rest.{from, length-from}
+use Rattle.line_reader.proofs.SizeLaws.{text-done, text-plain, text-escape, text-bad}
 use Rattle.line_reader.proofs.text.text_size.Goals as goal
 
 pub returns-then-not-is_escape : goal.returns-then-not-is_escape

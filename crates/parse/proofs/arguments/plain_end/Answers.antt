@@ -30,8 +30,8 @@ returns-clause-bounds c =
     let short = (before _ _ _ (found c) c.unwrap_or.ensures).0 in
     omega (arith, short, c.min-near.ensures, length-take {A = ℕ}, length-drop {A = ℕ}, c.args.part.within)
 
-pub returns-clause-by_index : goal.returns-clause-by_index
-returns-clause-by_index c k h l =
+pub returns-clause-plain : goal.returns-clause-plain
+returns-clause-plain c k h l =
     let n : ℕ = c.min-near.result - c.args.at in
     let i : ℕ = k - c.args.at in
     let (short, all) = before _ _ _ (found c) c.unwrap_or.ensures in

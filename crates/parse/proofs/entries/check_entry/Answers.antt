@@ -1,9 +1,14 @@
 -- `check_entry` meets its contract: its tests are those of `entry`, and what follows the header up to the aligned size is the text, its terminator and
 -- the padding.
 use Rattle.std.proofs.Common.{◌≡◌, ℕ, ◌+◌, ◌-◌, ◌<◌, ◌≤◌, List, ◌∙◌, sym, ap, refl, arith}
+use Rattle.std.specs.Result.{result_ok}
 use Rattle.std.proofs.lemmas.Result.{err_from_is_err_and}
 use borrow.Author.Tests.{le-leb, lt-ltb, eq-eqb}
-use Rattle.std.specs.Prelude.{Ok}
+use Rattle.std.specs.Prelude.{Result, Ok, Err, Option}
+use Rattle.std.specs.Option.{ok_or}
+use Rattle.layout.specs.declared.refusal.Refusal.{Refusal}
+use Rattle.layout.specs.declared.refusal.Refusal.TheVariants.{EntrySize}
+use Rattle.wire.specs.declared.length.TextLength.{TextLength}
 use Rattle.wire.specs.Length.{wire_size}
 use Rattle.wire.specs.Number.{u32_at}
 use Rattle.wire.specs.Padding.{padding, aligned}
@@ -15,17 +20,24 @@ use Rattle.format.specs.Parse.{terminated_text, entry}
 use Rattle.parse.specs.Outcome.{place_of}
 use Rattle.parse.proofs.entries.check_entry.Goals as goal
 
-pub returns-in_default : goal.returns-in_default
+err-is : {r s : Refusal} → ◌≡◌ {A = Result TextLength Refusal} (Err r) (Err s) → r ≡ s
+err-is e = cc
+
+pub returns-in_err-text : goal.returns-in_err-text
 unfolding entry check
-returns-in_default c =
-    let none : c.read_u32-size.result ≡ 0 = no_text c.read_u32-size.result (omega arith) (sym c.in_default.ensures) in
-    rw (← c.read_u32.ensures, ← c.read_u32-size.ensures, le-leb (c.args.at + c.args.header) c.args.part.end (omega arith), eq-eqb _ 0 c.if-read_u32-ne0.false, none)
+returns-in_err-text c =
+    let none : c.read_u32-size.result ≡ 0 = no_text c.read_u32-size.result (omega arith) (sym c.text_length.ensures ∙ c.ok_or.ensures.ok_part ∙ ap result_ok c.in_err-text.was) in
+    let p = err_from_is_err_and c.from_residual.result c.from_residual.ensures.1 in
+    let no-text = c.ok_or.ensures.ok_part ∙ ap result_ok c.in_err-text.was in
+    let refused = err-is (sym c.in_err-text.was ∙ c.ok_or.ensures.value ∙ ap (λ (o : Option TextLength). ok_or o EntrySize) no-text) in
+    p.1 ∙ ap Err p.2 ∙ ap Err refused ∙
+    rw (← c.header_size-header.ensures.value, ← c.read_u32.ensures, ← c.read_u32-size.ensures, le-leb (c.args.at + c.header_size-header.result) c.args.part.end (omega arith), eq-eqb _ 0 c.if-read_u32-ne0.false, none)
 
 -- the size counts the text and its terminator
 pub terminated_utf8-requires-clause-text_bound : goal.terminated_utf8-requires-clause-text_bound
 terminated_utf8-requires-clause-text_bound c =
-    let counts = wire_size-terminated c.read_u32-size.result _ (sym c.in-Some.ensures) in
-    omega (arith, counts, le-aligned (c.args.header + c.read_u32-size.result))
+    let counts = wire_size-terminated c.read_u32-size.result _ (sym c.text_length.ensures ∙ c.ok_or.ensures.ok_part ∙ ap result_ok c.in_ok-text.was) in
+    omega (arith, counts, le-aligned (c.header_size-header.result + c.read_u32-size.result))
 
 -- an entry whose tests hold up to its text, which fills it together with its terminator and the zeros
 module _ (header : ℕ) (p : List ℕ) (at end size long : ℕ) where
@@ -64,11 +76,11 @@ asked p at start n end size long header there counts whole =
 
 pub returns-in_err-terminated_utf8 : goal.returns-in_err-terminated_utf8
 returns-in_err-terminated_utf8 c =
-    let p = err_from_is_err_and c.from_residual.result c.from_residual.ensures.1 in
-    let counts = wire_size-terminated c.read_u32-size.result _ (sym c.in-Some.ensures) in
+    let p = err_from_is_err_and c.from_residual-in_err-terminated_utf8.result c.from_residual-in_err-terminated_utf8.ensures.1 in
+    let counts = wire_size-terminated c.read_u32-size.result _ (sym c.text_length.ensures ∙ c.ok_or.ensures.ok_part ∙ ap result_ok c.in_ok-text.was) in
     let whole = c.align4-aligned.ensures in
-    let text = sym (asked _ c.args.at _ _ c.args.part.end _ _ c.args.header refl counts whole) ∙ sym c.in_err-terminated_utf8.ensures in
-    rw (p.1, p.2)
+    let text = sym (asked _ c.args.at _ _ c.args.part.end _ _ c.header_size-header.result refl counts whole) ∙ sym c.in_err-terminated_utf8.ensures in
+    rw (p.1, p.2, ← c.header_size-header.ensures.value)
     (sym (ap (place_of _) (held _ _ _ _ _ _ (record {
       fits = omega arith;
       flags = sym c.read_u32.ensures ∙ c.if-read_u32-ne0.false;
@@ -81,11 +93,12 @@ returns-in_err-terminated_utf8 c =
 
 pub returns : goal.returns
 returns c =
-    let counts = wire_size-terminated c.read_u32-size.result _ (sym c.in-Some.ensures) in
+    let counts = wire_size-terminated c.read_u32-size.result _ (sym c.text_length.ensures ∙ c.ok_or.ensures.ok_part ∙ ap result_ok c.in_ok-text.was) in
     let whole = c.align4-aligned.ensures in
-    let text = sym (asked _ c.args.at _ _ c.args.part.end _ _ c.args.header refl counts whole) ∙ sym c.in_ok-terminated_utf8.ensures in
+    let text = sym (asked _ c.args.at _ _ c.args.part.end _ _ c.header_size-header.result refl counts whole) ∙ sym c.in_ok-terminated_utf8.ensures in
     let back : wire_size (c.read_u32-size.result - 1) ≡ c.read_u32-size.result = omega (arith, counts) in
-    sym (ap (place_of _) (held _ _ _ _ _ _ (record {
+    rw (← c.header_size-header.ensures.value)
+    (sym (ap (place_of _) (held _ _ _ _ _ _ (record {
       fits = omega arith;
       flags = sym c.read_u32.ensures ∙ c.if-read_u32-ne0.false;
       told = c.read_u32-size.ensures;
@@ -94,5 +107,5 @@ returns c =
       whole = whole;
       within = omega arith;
     }) ∙ after-good _ _ text)
-    ∙ ap (λ (n : ℕ). Ok (c.args.at + aligned (c.args.header + n))) back
-    ∙ ap (λ (n : ℕ). Ok (c.args.at + n)) (sym whole))
+    ∙ ap (λ (n : ℕ). Ok (c.args.at + aligned (c.header_size-header.result + n))) back
+    ∙ ap (λ (n : ℕ). Ok (c.args.at + n)) (sym whole)))

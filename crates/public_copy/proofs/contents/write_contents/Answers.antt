@@ -1,38 +1,38 @@
--- `write_contents` meets its contract: headers and empty entries are plain contents, and the headers alone packed ones.
-use Rattle.std.proofs.Common.{◌*◌, arith}
-use Rattle.wire.proofs.Sets.{sets-joined}
-use Rattle.layout.specs.declared.compression.SourceCompression.TheVariants.{None}
-use Rattle.public_copy.specs.Header.{contents_start}
-use Rattle.public_copy.proofs.ContentsLaws.{empties, length-headers, plain_copy, plain-long, packed-copy, packed-long}
+-- `write_contents` meets its contract: the frame around empty entries is plain contents, and around nothing packed ones.
+use Rattle.std.proofs.Common.{◌≡◌, ◌+◌, ◌-◌, ◌*◌, length, ap, ◌∙◌, arith}
+use Rattle.wire.specs.Padding.{aligned}
+use Rattle.wire.proofs.PaddingLaws.{le-aligned}
+use Rattle.std.proofs.lemmas.List.Edits.{sets}
+use Rattle.public_copy.proofs.ContentsLaws.{stored, length-empties, copy-long, copy-closed}
 use Rattle.public_copy.proofs.contents.write_contents.Goals as goal
+use Rattle.public_copy.proofs.contents.write_contents.Goals.{Joined-compression, in-None, in-Zlib}
 
-pub overflow_cast-bytes-in-None : goal.overflow_cast-bytes-in-None
-overflow_cast-bytes-in-None c = let room = rw (c.in-None.is, plain-long) at c.requires in omega arith
+pub write_entries-end-requires : goal.write_entries-end-requires
+write_entries-end-requires c =
+    let bytes = length (stored c.args.compression c.args.count) in
+    let many : bytes ≡ 16 * c.args.count = rw c.in-None.is (length-empties c.args.count) in
+    omega (arith, c.requires, copy-long c.args.compression c.args.count, le-aligned (28 + bytes), many)
 
-pub write_headers-requires : goal.write_headers-requires
-write_headers-requires c = let room = rw (c.in-None.is, plain-long) at c.requires in omega arith
+-- what is stored before the headers are, and where it ends
+filled :
+    (c : goal.Joined-compression) →
+    (c.match-compression.end ≡ c.args.to + 28 + length (stored c.args.compression c.args.count))
+    × (c.match-compression.output ≡ sets c.args.output.now (c.args.to + 28) (stored c.args.compression c.args.count))
+filled c =
+    elim c.match-compression.branch [
+      | in-None w ↦
+          let w₂ = w.write_entries-end.ensures in
+          rw w.in-None.is (omega (arith, w.end-is, w₂.value, length-empties c.args.count), w.output-is ∙ w₂.output_after)
+      | in-Zlib w ↦ rw w.in-Zlib.is (omega (arith, w.end-is), w.output-is)
+    ]
 
-pub write_entries-requires : goal.write_entries-requires
-write_entries-requires c = let room = rw (c.in-None.is, plain-long) at c.requires in omega arith
+pub returns-clause-value : goal.returns-clause-value
+returns-clause-value c =
+    let (end, output) = filled ((goal.at.returns-clause-value c).Joined-compression) in
+    let size : c.match-compression.end - c.args.to ≡ 28 + length (stored c.args.compression c.args.count) = omega arith in
+    omega (arith, c.close_contents.ensures.value, copy-long c.args.compression c.args.count, ap aligned size)
 
-pub write_headers-requires-in-Zlib : goal.write_headers-requires-in-Zlib
-write_headers-requires-in-Zlib c = let room = rw (c.in-Zlib.is, packed-long) at c.requires in omega arith
-
-pub returns-in-None : goal.returns-in-None
-returns-in-None c =
-    let count = c.args.count in
-    rw c.in-None.is
-    (record {
-      value = omega (arith, plain-long count);
-      output_after =
-          rw (c.write_entries.ensures, c.write_headers.ensures, c.in-None.is, plain_copy count)
-          (sets-joined (contents_start None (16 * count) count) (empties count) c.args.output.now c.args.to _ (omega (arith, length-headers None (16 * count) count)));
-    })
-
-pub returns-in-Zlib : goal.returns-in-Zlib
-returns-in-Zlib c =
-    rw c.in-Zlib.is
-    (record {
-      value = omega (arith, packed-long c.args.count);
-      output_after = rw (c.write_headers-in-Zlib.ensures, c.in-Zlib.is, packed-copy c.args.count);
-    })
+pub returns-clause-output_after : goal.returns-clause-output_after
+returns-clause-output_after c =
+    let (end, output) = filled ((goal.at.returns-clause-output_after c).Joined-compression) in
+    c.close_contents.ensures.output_after ∙ rw output (copy-closed c.args.compression c.args.count c.args.to end c.args.output.now)

@@ -9,7 +9,7 @@ loop-section-init c = none-stored (c.into_iter-section-iterator.ensures.into_ite
 
 pub copy_section-to-requires : goal.copy_section-to-requires
 copy_section-to-requires c =
-    let room = copied-within c.args.payload.bytes.now c.args.payload.of_bytes c.args.payload.accepted in
+    let room = copied-within c.args.payload.bytes.now c.args.payload.are_bytes c.args.payload.accepted in
     omega (arith, room, item-within c.loop-section.invariant c.in-Some.ensures.steps)
 
 pub loop-section-preserved : goal.loop-section-preserved
@@ -19,6 +19,6 @@ loop-section-preserved c =
 
 pub returns : goal.returns
 returns c =
-    let room = copied-within c.args.payload.bytes.now c.args.payload.of_bytes c.args.payload.accepted in
+    let room = copied-within c.args.payload.bytes.now c.args.payload.are_bytes c.args.payload.accepted in
     let (ends, stored) = all-stored c.loop-section.invariant c.in-None.ensures.steps.0 in
     record { value = ends; upper_bound = omega (arith, room, ends); output_after = stored }

@@ -1,37 +1,64 @@
--- `fill_section` meets its contract: what names and arguments hold ends within the section, and is as many as it says.
-use Rattle.std.proofs.Common.{◌+◌, arith}
-use Rattle.wire.specs.Number.{u32_at}
-use Rattle.layout.proofs.Checked.{is-good}
-use Rattle.format.specs.Parse.{parse_section}
-use Rattle.format.specs.Walk.{name_at, walk_section}
-use Rattle.format.proofs.Walking.{length-walk_entries, length-walk_pairs}
-use Rattle.format.proofs.WalkLaws.{names-walk, arguments-walk}
+-- `fill_section` meets its contract: its own row, and those of what it holds, are the rows of the walk.
+use Rattle.std.proofs.Common.{ap, length, arith, rules, tests}
+use Rattle.std.proofs.lemmas.Iterator.{YieldsList-from_map}
+use Rattle.std.proofs.lemmas.Iterator.Consumers.{YieldsList-from_first}
+use Rattle.read.specs.Store.{content_of, name_of, pair_of}
+use Rattle.read.proofs.Filling.{all-items, contents-walked, names-walked, pairs-walked, rest-fits, rest-ends, rest-filled}
 use Rattle.read.proofs.fill.fill_section.Goals as goal
 
-pub fill_entries-requires-clause-start_in_bounds : goal.fill_entries-requires-clause-start_in_bounds
-unfolding parse_section
-fill_entries-requires-clause-start_in_bounds c =
+pub fill_rows-requires-clause-index_bound : goal.fill_rows-requires-clause-index_bound
+fill_rows-requires-clause-index_bound c =
     let section = c.args.section in
-    let (rs, found) = is-good _ (rw c.in-SourceNames.is at section.good) in
-    rw c.name_count-count.ensures (omega (arith, (names-walk section.payload.now section.at _ rs found).1, section.within))
+    let all = contents-walked section.payload.now section.kind section.at c.in-Contents.entries c.in-Contents.ensures in
+    (tt, omega (arith, ap length c.map.ensures.source, rest-fits _ _ _ all c.store_row-next.ensures.value c.requires))
 
-pub fill_pairs-requires-clause-start_in_bounds : goal.fill_pairs-requires-clause-start_in_bounds
-unfolding parse_section
-fill_pairs-requires-clause-start_in_bounds c =
+pub returns-in-Contents : goal.returns-in-Contents
+returns-in-Contents c =
     let section = c.args.section in
-    let (rs, found) = is-good _ (rw c.in-Arguments.is at section.good) in
-    rw c.pair_count-count.ensures (omega (arith, (arguments-walk section.payload.now section.at _ rs found).1, section.within))
+    let all = contents-walked section.payload.now section.kind section.at c.in-Contents.entries c.in-Contents.ensures in
+    let own = c.store_row-next.ensures in
+    let (given, ran, ends, stored) = c.fill_rows.ensures.filled in
+    let yields = YieldsList-from_map _ content_of (YieldsList-from_first _ (λ left. left) c.in-Contents.entries c.map.ensures.source) c.map.ensures.closure (λ x r q k. search (rules, tests)) in
+    let same = all-items given ran yields in
+    record {
+      value = rest-ends _ _ _ all own.value same ends;
+      rows_after = rest-filled _ _ _ all own.value same _ (cc (own.rows_after, c.plain_contents.ensures, c.header_field.ensures)) stored;
+    }
 
-pub returns-in-SourceNames-clause-value : goal.returns-in-SourceNames-clause-value
-unfolding walk_section
-returns-in-SourceNames-clause-value c =
-    let p = c.args.section.payload.now in
-    let at = c.args.section.at in
-    rw c.in-SourceNames.is (omega (arith, c.name_count-count.ensures, length-walk_entries p (name_at p) (u32_at p (at + 12)) (at + 18)))
+pub fill_rows-requires-in-Names-clause-index_bound : goal.fill_rows-requires-in-Names-clause-index_bound
+fill_rows-requires-in-Names-clause-index_bound c =
+    let section = c.args.section in
+    let all = names-walked section.payload.now section.kind section.at c.in-Names.entries c.in-Names.ensures in
+    (tt, omega (arith, ap length c.map-in-Names.ensures.source, rest-fits _ _ _ all c.store_row-next-in-Names.ensures.value c.requires))
 
-pub returns-in-Arguments-clause-value : goal.returns-in-Arguments-clause-value
-unfolding walk_section
-returns-in-Arguments-clause-value c =
-    let p = c.args.section.payload.now in
-    let at = c.args.section.at in
-    rw c.in-Arguments.is (omega (arith, c.pair_count-count.ensures, length-walk_pairs p (u32_at p (at + 16)) (at + 20)))
+pub returns-in-Names : goal.returns-in-Names
+returns-in-Names c =
+    let section = c.args.section in
+    let all = names-walked section.payload.now section.kind section.at c.in-Names.entries c.in-Names.ensures in
+    let own = c.store_row-next-in-Names.ensures in
+    let (given, ran, ends, stored) = c.fill_rows-in-Names.ensures.filled in
+    let yields = YieldsList-from_map _ name_of (YieldsList-from_first _ (λ left. left) c.in-Names.entries c.map-in-Names.ensures.source) c.map-in-Names.ensures.closure (λ x r q k. search (rules, tests)) in
+    let same = all-items given ran yields in
+    record {
+      value = rest-ends _ _ _ all own.value same ends;
+      rows_after = rest-filled _ _ _ all own.value same _ (cc (own.rows_after, c.names.ensures)) stored;
+    }
+
+pub fill_rows-requires-in-Arguments-clause-index_bound : goal.fill_rows-requires-in-Arguments-clause-index_bound
+fill_rows-requires-in-Arguments-clause-index_bound c =
+    let section = c.args.section in
+    let all = pairs-walked section.payload.now section.kind section.at c.in-Arguments.pairs c.in-Arguments.ensures in
+    (tt, omega (arith, ap length c.map-in-Arguments.ensures.source, rest-fits _ _ _ all c.store_row-next-in-Arguments.ensures.value c.requires))
+
+pub returns-in-Arguments : goal.returns-in-Arguments
+returns-in-Arguments c =
+    let section = c.args.section in
+    let all = pairs-walked section.payload.now section.kind section.at c.in-Arguments.pairs c.in-Arguments.ensures in
+    let own = c.store_row-next-in-Arguments.ensures in
+    let (given, ran, ends, stored) = c.fill_rows-in-Arguments.ensures.filled in
+    let yields = YieldsList-from_map _ pair_of (YieldsList-from_first _ (λ left. left) c.in-Arguments.pairs c.map-in-Arguments.ensures.source) c.map-in-Arguments.ensures.closure (λ x r q k. search (rules, tests)) in
+    let same = all-items given ran yields in
+    record {
+      value = rest-ends _ _ _ all own.value same ends;
+      rows_after = rest-filled _ _ _ all own.value same _ (cc (own.rows_after, c.arguments.ensures)) stored;
+    }

@@ -31,7 +31,12 @@ loop-section-init c =
     (record { ends = omega arith; rest = refl })
 
 pub fill_section-index-requires : goal.fill_section-index-requires
-fill_section-index-requires c = omega (arith, c.loop-section.invariant.ends, few c.args.payload.bytes.now c.args.payload.accepted)
+unfolding flat_map
+fill_section-index-requires c =
+    let section = c.in-Some.section in
+    let here = walk_section section.payload.now section.kind section.at in
+    let split : flat_map rows_of c.loop-section.section-iterator ≡ here ++ flat_map rows_of c.next.new.self = ap (flat_map rows_of) c.in-Some.ensures.steps in
+    omega (arith, c.loop-section.invariant.ends, few c.args.payload.bytes.now c.args.payload.accepted, ap length split, length-append here (flat_map rows_of c.next.new.self))
 
 pub loop-section-preserved : goal.loop-section-preserved
 unfolding flat_map

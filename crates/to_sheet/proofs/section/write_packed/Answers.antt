@@ -9,6 +9,7 @@ use Rattle.sheet.specs.SheetWalk.{packed_at}
 use Rattle.to_sheet.specs.Entry.{sheet_limit}
 use Rattle.to_sheet.proofs.LineParts.{Stored, first-stored, then-stored, as-line, field, end, four-fields}
 use Rattle.to_sheet.proofs.section.write_packed.Goals as goal
+use Rattle.to_sheet.proofs.section.write_packed.Goals.{After-stored_size-size}
 
 -- the line's pieces
 abbrev pieces : ℕ → ℕ → ℕ → List ℕ → List ℕ
@@ -34,25 +35,22 @@ module _
         to + (6 + length (field (decimal header)) + length (field (decimal count)) + length (field (decimal uncompressed)) + length (field (hex_pairs (part p (at + 28) size))) + 1) ≤ sheet_limit
     fits to room = omega (arith, room, ap length is-line, long header count uncompressed (part p (at + 28) size))
 
+room :
+    (c : After-stored_size-size) →
+    c.args.to + (6 + length (field (decimal c.header_field-field.result)) + length (field (decimal c.content_count-count.result)) + length (field (decimal c.uncompressed_size-uncompressed.result)) + length (field (hex_pairs (part c.args.section.payload.now (c.args.section.at + 28) c.stored_size-size.result))) + 1) ≤ sheet_limit
+room c = fits c.args.section.payload.now c.args.section.at _ _ _ _ c.header_field-field.ensures c.content_count-count.ensures c.uncompressed_size-uncompressed.ensures c.stored_size-size.ensures c.args.to c.requires
+
 pub overflow_cast-first : goal.overflow_cast-first
-overflow_cast-first c =
-    let room = fits c.args.section.payload.now c.args.section.at _ _ _ _ c.header_field-field.ensures c.content_count-count.ensures c.uncompressed_size-uncompressed.ensures c.stored_size-size.ensures c.args.to c.requires in
-    omega (arith, room, c.write_number-first.ensures.value)
+overflow_cast-first c = omega (arith, room ((goal.at.overflow_cast-first c).After-stored_size-size), c.write_number-first.ensures.value)
 
 pub overflow_cast-second : goal.overflow_cast-second
-overflow_cast-second c =
-    let room = fits c.args.section.payload.now c.args.section.at _ _ _ _ c.header_field-field.ensures c.content_count-count.ensures c.uncompressed_size-uncompressed.ensures c.stored_size-size.ensures c.args.to c.requires in
-    omega (arith, room, c.write_number-first.ensures.value, c.write_number-second.ensures.value)
+overflow_cast-second c = omega (arith, room ((goal.at.overflow_cast-second c).After-stored_size-size), c.write_number-first.ensures.value, c.write_number-second.ensures.value)
 
 pub overflow_cast-third : goal.overflow_cast-third
-overflow_cast-third c =
-    let room = fits c.args.section.payload.now c.args.section.at _ _ _ _ c.header_field-field.ensures c.content_count-count.ensures c.uncompressed_size-uncompressed.ensures c.stored_size-size.ensures c.args.to c.requires in
-    omega (arith, room, c.write_number-first.ensures.value, c.write_number-second.ensures.value, c.write_number-third.ensures.value)
+overflow_cast-third c = omega (arith, room ((goal.at.overflow_cast-third c).After-stored_size-size), c.write_number-first.ensures.value, c.write_number-second.ensures.value, c.write_number-third.ensures.value)
 
-pub overflow_add-result : goal.overflow_add-result
-overflow_add-result c =
-    let room = fits c.args.section.payload.now c.args.section.at _ _ _ _ c.header_field-field.ensures c.content_count-count.ensures c.uncompressed_size-uncompressed.ensures c.stored_size-size.ensures c.args.to c.requires in
-    omega (arith, room, c.write_number-first.ensures.value, c.write_number-second.ensures.value, c.write_number-third.ensures.value, c.write_hex-end.ensures.value)
+pub end_line-requires : goal.end_line-requires
+end_line-requires c = omega (arith, room ((goal.at.end_line-requires c).After-stored_size-size), c.write_number-first.ensures.value, c.write_number-second.ensures.value, c.write_number-third.ensures.value, c.write_hex-end.ensures.value)
 
 pub returns : goal.returns
 unfolding ascii
@@ -65,5 +63,5 @@ returns c =
     let four = then-stored (field (decimal c.uncompressed_size-uncompressed.result)) three c.write_number-third.ensures.output_after c.write_number-third.ensures.value in
     let five = then-stored (field (hex_pairs (part p (a.section.at + 28) c.stored_size-size.result))) four c.write_hex-end.ensures.output_after c.write_hex-end.ensures.value in
     let said = is-line p a.section.at _ _ _ _ c.header_field-field.ensures c.content_count-count.ensures c.uncompressed_size-uncompressed.ensures c.stored_size-size.ensures in
-    let all = as-line said (then-stored end five c.write_bytes-2.ensures refl) in
+    let all = as-line said (then-stored end five c.end_line.ensures.output_after c.end_line.ensures.value) in
     record { value = all.ends; output_after = all.is }

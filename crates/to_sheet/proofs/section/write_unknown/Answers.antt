@@ -25,8 +25,8 @@ long p kind at = ap length (is-line p kind at) ∙ simp length-append
 pub overflow_cast-next : goal.overflow_cast-next
 overflow_cast-next c = omega (arith, c.requires, long c.args.section.payload.now c.args.kind c.args.section.at, c.write_number-next.ensures.value)
 
-pub overflow_add-result : goal.overflow_add-result
-overflow_add-result c =
+pub end_line-requires : goal.end_line-requires
+end_line-requires c =
     let hex = rw c.body_size-bytes.ensures at c.write_hex-end.ensures in
     omega (arith, c.requires, long c.args.section.payload.now c.args.kind c.args.section.at, c.write_number-next.ensures.value, hex.value)
 
@@ -39,5 +39,5 @@ returns c =
     let one : Stored a.output.now a.to (ascii "unknown") _ (a.to + 7) = first-stored c.write_bytes.ensures refl in
     let two = then-stored (field (decimal a.kind)) one c.write_number-next.ensures.output_after c.write_number-next.ensures.value in
     let three = then-stored (field (hex_pairs (part p (a.section.at + 8) (u32_at p a.section.at - 8)))) two hex.output_after hex.value in
-    let all = as-line (is-line p a.kind a.section.at) (then-stored end three c.write_bytes-2.ensures refl) in
+    let all = as-line (is-line p a.kind a.section.at) (then-stored end three c.end_line.ensures.output_after c.end_line.ensures.value) in
     record { value = all.ends; output_after = all.is }

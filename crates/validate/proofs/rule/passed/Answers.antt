@@ -15,14 +15,14 @@ first_three s a b c (suc zero) h = b
 first_three s a b c (suc (suc zero)) h = c
 first_three s a b c (suc (suc (suc i))) h = absurd (omega arith)
 
-pub returns-then-text-lt-SHORTEST-clause-text_value : goal.returns-then-text-lt-SHORTEST-clause-text_value
-returns-then-text-lt-SHORTEST-clause-text_value c = after-ascii c.args.text.now c.args.at (omega arith) c.requires.by_index
+pub returns-then-text-lt-SHORTEST-clause-same_answer : goal.returns-then-text-lt-SHORTEST-clause-same_answer
+returns-then-text-lt-SHORTEST-clause-same_answer c = after-ascii c.args.text.now c.args.at (omega arith) c.requires.ascii
 
 pub invariant_of-carried_on : goal.invariant_of-carried_on
-invariant_of-carried_on c = record { in_text = omega arith; each = ascii-right c.args.text.now c.args.at c.requires.by_index }
+invariant_of-carried_on c = record { in_text = omega arith; each = ascii-right c.args.text.now c.args.at c.requires.ascii }
 
-pub returns-then-has_wrong-clause-text_value : goal.returns-then-has_wrong-clause-text_value
-returns-then-has_wrong-clause-text_value c = after-ascii c.args.text.now c.args.at (omega arith) c.requires.by_index
+pub returns-then-has_wrong-clause-same_answer : goal.returns-then-has_wrong-clause-same_answer
+returns-then-has_wrong-clause-same_answer c = after-ascii c.args.text.now c.args.at (omega arith) c.requires.ascii
 
 pub invariant_of-carried_on-2 : goal.invariant_of-carried_on-2
 invariant_of-carried_on-2 c =

@@ -38,7 +38,7 @@ returns-in-None c =
 pub write_run-after-requires : goal.write_run-after-requires
 write_run-after-requires c =
     let r = run c.requires (sym c.in-Some.is ∙ c.entry_tag.ensures) in
-    record { first_in_bounds = omega (arith, c.requires.writable.0); rows_bound = omega (arith, fits c.requires, ap length r.stored) }
+    record { first_in_bounds = omega (arith, c.requires.writable.0); bound = omega (arith, fits c.requires, ap length r.stored) }
 
 pub overflow_cast-result-in-Some-2 : goal.overflow_cast-result-in-Some-2
 overflow_cast-result-in-Some-2 c =

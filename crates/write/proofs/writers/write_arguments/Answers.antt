@@ -1,11 +1,8 @@
 -- `write_arguments` meets its contract: what closes the stored bytes is what stands around them.
-use Rattle.write.proofs.SectionParts.{told, arguments-headed}
+use Rattle.write.proofs.SectionParts.{closed, arguments-headed}
 use Rattle.write.proofs.writers.write_arguments.Goals as goal
 
-pub returns : goal.returns
-returns c =
+pub returns-clause-output_after : goal.returns-clause-output_after
+returns-clause-output_after c =
     let body = c.store_body-body.ensures in
-    let (position, whole) =
-    told c.requires (arguments-headed _ _ c.requires) c.args.output.now body.start body.end body.index c.close_arguments-at.ensures.value
-    (rw (body.output_after, body.count) at c.close_arguments-at.ensures.output_after) in
-    record { position_after = position; output_after = whole }
+    closed c.requires (arguments-headed _ _ c.requires) _ body.start body.end (rw (body.output_after, body.count) at c.close_arguments-at.ensures.output_after)

@@ -6,7 +6,7 @@ use Rattle.table.specs.declared.tag.Tag.{Tag}
 use Rattle.table.proofs.Tags.{tag_same, same_tags}
 use Rattle.format.proofs.Records.{some_same}
 use Rattle.format.specs.Records.{Record}
-use Rattle.from_sheet.specs.Records.{ahead_of, records_from}
+use Rattle.from_sheet.specs.Records.{ahead_of, records_in}
 use Rattle.from_sheet.specs.Run.{run}
 use Rattle.from_sheet.proofs.RunLaws.{run_none, run-stops}
 use Rattle.from_sheet.proofs.records.Records.next_of.Goals as goal
@@ -26,19 +26,19 @@ first t ahead rs old new (Some r) is own h =
 
 pub returns-in_err-as_ref : goal.returns-in_err-as_ref
 returns-in_err-as_ref c =
-    let none : c.args.self.now ≡ [] = sym c.self.view_is ∙ sym (ap (λ (r : Option Record). ahead_of r (records_from c.self.inside.sheet.now c.self.inside.at)) c.in_err-as_ref.ensures.value) in
+    let none : c.args.self.now ≡ [] = sym c.self.view_is ∙ sym (ap (λ (r : Option Record). ahead_of r (records_in c.self.inside.rest.now)) c.in_err-as_ref.ensures.value) in
     rw c.from_residual.ensures (rw none (run_none (Some c.args.tag)).0, refl)
 
 pub returns-then-ne : goal.returns-then-ne
 returns-then-ne c =
-    let rest = records_from c.self.inside.sheet.now c.self.inside.at in
+    let rest = records_in c.self.inside.rest.now in
     let is = sym c.self.view_is ∙ sym (ap (λ (r : Option Record). ahead_of r rest) c.in_ok-as_ref.ensures.value) in
     let other : same_tag (Some c.tag.result) (Some c.args.tag) ≡ false = search (rules, same_tags) in
     (rw is (run-stops (Some c.args.tag) _ rest (ap (λ (t : Tag). same_tag (Some t) (Some c.args.tag)) (sym c.tag.ensures) ∙ other)).0, refl)
 
 pub returns : goal.returns
 returns c =
-    let rest = records_from c.self.inside.sheet.now c.self.inside.at in
+    let rest = records_in c.self.inside.rest.now in
     let is = sym c.self.view_is ∙ sym (ap (λ (r : Option Record). ahead_of r rest) c.in_ok-as_ref.ensures.value) in
     let same : same_tag (Some c.tag.result) (Some c.args.tag) ≡ true = search (rules, same_tags) in
     let own = sym c.tag.ensures ∙ some_same (tag_same _ _ same) in

@@ -5,7 +5,7 @@ use Rattle.wire.specs.Number.{u16_at}
 use Rattle.format.specs.CopyWalk.{copy_at, copy_of, copy}
 use Rattle.format.specs.Parse.{kind_at}
 use Rattle.format.specs.Walk.{places_from, places}
-use Rattle.format.proofs.MainHeader.{header-stored}
+use Rattle.frames.proofs.PayloadClosed.{header-stored}
 use Rattle.section_reader.proofs.Accepted.{known-many}
 use Rattle.public_copy.specs.Joined.{joined}
 use Rattle.public_copy.proofs.CopyLaws.{copy-known, copy-long, copied-all}
@@ -22,6 +22,6 @@ returns c =
     record {
       value = made.value ∙ sym (copy-long sections);
       output_after =
-          rw (c.write_u16-2.ensures, c.write_u16.ensures, c.write_u32.ensures, made.output_after, many, made.value)
+          rw (c.close_payload.ensures, made.output_after, many, made.value)
           (header-stored (8 + length (joined sections)) (length sections) (joined sections) c.args.output.now);
     }

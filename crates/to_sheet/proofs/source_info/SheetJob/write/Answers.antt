@@ -36,7 +36,7 @@ loop-section-init c = none-stored (c.into_iter-section-iterator.ensures.into_ite
 pub write_section-to-requires : goal.write_section-to-requires
 write_section-to-requires c =
     let payload = c.args.payload in
-    omega (arith, small payload.bytes.now payload.of_bytes payload.accepted, item-within c.loop-section.invariant c.in-Some.ensures.steps)
+    omega (arith, small payload.bytes.now payload.are_bytes payload.accepted, item-within c.loop-section.invariant c.in-Some.ensures.steps)
 
 pub loop-section-preserved : goal.loop-section-preserved
 loop-section-preserved c =
@@ -47,7 +47,7 @@ pub overflow_cast-result : goal.overflow_cast-result
 overflow_cast-result c =
     let payload = c.args.payload in
     let (ends, stored) = all-stored c.loop-section.invariant c.in-None.ensures.steps.0 in
-    omega (arith, small payload.bytes.now payload.of_bytes payload.accepted, ends)
+    omega (arith, small payload.bytes.now payload.are_bytes payload.accepted, ends)
 
 pub returns : goal.returns
 returns c =

@@ -16,22 +16,22 @@ module _ (s : List ℕ) (end : ℕ) (inside : end ≤ length s) (all : (i : ℕ)
   at-end : 3 ≤ end → get_or s (end - 1) 0 < 0xC2 → get_or s (end - 2) 0 < 0xE0 → get_or s (end - 3) 0 < 0xF0 → octets_from 0 end (drop end s) ≡ utf8_of s
   at-end h p1 p2 p3 = passed s end inside all (open-at s end h ∙ due-none _ _ _ p1 p2 p3)
 
-pub returns-then-end-lt3-clause-text_value : goal.returns-then-end-lt3-clause-text_value
+pub returns-then-end-lt3-clause-same_answer : goal.returns-then-end-lt3-clause-same_answer
 unfolding utf8_of
-returns-then-end-lt3-clause-text_value c = refl
+returns-then-end-lt3-clause-same_answer c = refl
 
-pub returns-then-text-end-ge194-clause-text_value : goal.returns-then-text-end-ge194-clause-text_value
-returns-then-text-end-ge194-clause-text_value c =
+pub returns-then-text-end-ge194-clause-same_answer : goal.returns-then-text-end-ge194-clause-same_answer
+returns-then-text-end-ge194-clause-same_answer c =
     before-long c.args.self.text.now c.args.self.end c.args.self.in_text c.args.self.each _ (omega arith) (omega arith)
 
-pub returns-then-text-end-ge224-clause-text_value : goal.returns-then-text-end-ge224-clause-text_value
-returns-then-text-end-ge224-clause-text_value c =
+pub returns-then-text-end-ge224-clause-same_answer : goal.returns-then-text-end-ge224-clause-same_answer
+returns-then-text-end-ge224-clause-same_answer c =
     before-long c.args.self.text.now c.args.self.end c.args.self.in_text c.args.self.each _ (omega arith) (omega arith)
 
-pub returns-then-text-end-ge240-clause-text_value : goal.returns-then-text-end-ge240-clause-text_value
-returns-then-text-end-ge240-clause-text_value c =
+pub returns-then-text-end-ge240-clause-same_answer : goal.returns-then-text-end-ge240-clause-same_answer
+returns-then-text-end-ge240-clause-same_answer c =
     before-long c.args.self.text.now c.args.self.end c.args.self.in_text c.args.self.each _ (omega arith) (omega arith)
 
-pub returns-clause-text_value : goal.returns-clause-text_value
-returns-clause-text_value c =
+pub returns-clause-same_answer : goal.returns-clause-same_answer
+returns-clause-same_answer c =
     at-end c.args.self.text.now c.args.self.end c.args.self.in_text c.args.self.each (omega arith) (omega arith) (omega arith) (omega arith)
