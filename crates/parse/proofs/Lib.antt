@@ -1,4 +1,5 @@
 pub mod Count
+pub mod Refused
 pub mod RunLaws
 pub mod SectionCount
 pub mod SectionTurns

@@ -4,11 +4,7 @@ use Rattle.std.proofs.Common.{◌≡◌, ℕ, ◌+◌, ◌-◌, ◌<◌, ◌≤�
 use Rattle.std.specs.Result.{result_ok}
 use Rattle.std.proofs.lemmas.Result.{err_from_is_err_and}
 use borrow.Author.Tests.{le-leb, lt-ltb, eq-eqb}
-use Rattle.std.specs.Prelude.{Result, Ok, Err, Option}
-use Rattle.std.specs.Option.{ok_or}
-use Rattle.layout.specs.declared.refusal.Refusal.{Refusal}
-use Rattle.layout.specs.declared.refusal.Refusal.TheVariants.{EntrySize}
-use Rattle.wire.specs.declared.length.TextLength.{TextLength}
+use Rattle.std.specs.Prelude.{Ok, Err}
 use Rattle.wire.specs.Length.{wire_size}
 use Rattle.wire.specs.Number.{u32_at}
 use Rattle.wire.specs.Padding.{padding, aligned}
@@ -18,10 +14,8 @@ use Rattle.layout.proofs.Checked.{after-fault, after-good}
 use Rattle.layout.specs.Checked.{check, then}
 use Rattle.format.specs.Parse.{terminated_text, entry}
 use Rattle.parse.specs.Outcome.{place_of}
+use Rattle.parse.proofs.Refused.{refused-by}
 use Rattle.parse.proofs.entries.check_entry.Goals as goal
-
-err-is : {r s : Refusal} → ◌≡◌ {A = Result TextLength Refusal} (Err r) (Err s) → r ≡ s
-err-is e = cc
 
 pub returns-in_err-text : goal.returns-in_err-text
 unfolding entry check
@@ -29,7 +23,7 @@ returns-in_err-text c =
     let none : c.read_u32-size.result ≡ 0 = no_text c.read_u32-size.result (omega arith) (sym c.text_length.ensures ∙ c.ok_or.ensures.ok_part ∙ ap result_ok c.in_err-text.was) in
     let p = err_from_is_err_and c.from_residual.result c.from_residual.ensures.1 in
     let no-text = c.ok_or.ensures.ok_part ∙ ap result_ok c.in_err-text.was in
-    let refused = err-is (sym c.in_err-text.was ∙ c.ok_or.ensures.value ∙ ap (λ (o : Option TextLength). ok_or o EntrySize) no-text) in
+    let refused = refused-by _ _ _ _ c.ok_or.ensures.value c.in_err-text.was no-text in
     p.1 ∙ ap Err p.2 ∙ ap Err refused ∙
     rw (← c.header_size-header.ensures.value, ← c.read_u32.ensures, ← c.read_u32-size.ensures, le-leb (c.args.at + c.header_size-header.result) c.args.part.end (omega arith), eq-eqb _ 0 c.if-read_u32-ne0.false, none)
 
@@ -40,27 +34,26 @@ terminated_utf8-requires-clause-text_bound c =
     omega (arith, counts, le-aligned (c.header_size-header.result + c.read_u32-size.result))
 
 -- an entry whose tests hold up to its text, which fills it together with its terminator and the zeros
-module _ (header : ℕ) (p : List ℕ) (at end size long : ℕ) where
-  record Held : Type 0 where
-    pub fits : at + header ≤ end
-    pub flags : u32_at p (at + 4) ≡ 0
-    pub told : size ≡ u32_at p (at + 8)
-    pub some : 0 < size
-    pub is : u32_at p at ≡ long
-    pub whole : long ≡ aligned (header + size)
-    pub within : at + long ≤ end
-
-  held : Held → entry header p at end ≡ then (terminated_text p (at + header) size (padding (header + size))) (λ _. Ok (size - 1))
-  unfolding entry check
-  held h =
-      rw (
-        ← h.told,
-        le-leb (at + header) end h.fits,
-        eq-eqb _ 0 h.flags,
-        lt-ltb 0 size h.some,
-        eq-eqb _ _ (h.is ∙ h.whole),
-        le-leb (at + aligned (header + size)) end (omega (arith, h.within, h.whole)),
-      )
+held :
+    (header : ℕ) (p : List ℕ) (at end size long : ℕ) →
+    at + header ≤ end →
+    u32_at p (at + 4) ≡ 0 →
+    size ≡ u32_at p (at + 8) →
+    0 < size →
+    u32_at p at ≡ long →
+    long ≡ aligned (header + size) →
+    at + long ≤ end →
+    entry header p at end ≡ then (terminated_text p (at + header) size (padding (header + size))) (λ _. Ok (size - 1))
+unfolding entry check
+held header p at end size long fits flags told some is whole within =
+    rw (
+      ← told,
+      le-leb (at + header) end fits,
+      eq-eqb _ 0 flags,
+      lt-ltb 0 size some,
+      eq-eqb _ _ (is ∙ whole),
+      le-leb (at + aligned (header + size)) end (omega (arith, within, whole)),
+    )
 
 -- what `terminated_utf8` was asked of is what is left of the entry's tests
 asked :
@@ -81,15 +74,7 @@ returns-in_err-terminated_utf8 c =
     let whole = c.align4-aligned.ensures in
     let text = sym (asked _ c.args.at _ _ c.args.part.end _ _ c.header_size-header.result refl counts whole) ∙ sym c.in_err-terminated_utf8.ensures in
     rw (p.1, p.2, ← c.header_size-header.ensures.value)
-    (sym (ap (place_of _) (held _ _ _ _ _ _ (record {
-      fits = omega arith;
-      flags = sym c.read_u32.ensures ∙ c.if-read_u32-ne0.false;
-      told = c.read_u32-size.ensures;
-      some = omega (arith, counts);
-      is = sym c.read_u32-2.ensures ∙ c.if-read_u32-aligned.false;
-      whole = whole;
-      within = omega arith;
-    }) ∙ after-fault _ _ text)))
+    (sym (ap (place_of _) (held _ _ _ _ _ _ (omega arith) (sym c.read_u32.ensures ∙ c.if-read_u32-ne0.false) c.read_u32-size.ensures (omega (arith, counts)) (sym c.read_u32-2.ensures ∙ c.if-read_u32-aligned.false) whole (omega arith) ∙ after-fault _ _ text)))
 
 pub returns : goal.returns
 returns c =
@@ -98,14 +83,6 @@ returns c =
     let text = sym (asked _ c.args.at _ _ c.args.part.end _ _ c.header_size-header.result refl counts whole) ∙ sym c.in_ok-terminated_utf8.ensures in
     let back : wire_size (c.read_u32-size.result - 1) ≡ c.read_u32-size.result = omega (arith, counts) in
     rw (← c.header_size-header.ensures.value)
-    (sym (ap (place_of _) (held _ _ _ _ _ _ (record {
-      fits = omega arith;
-      flags = sym c.read_u32.ensures ∙ c.if-read_u32-ne0.false;
-      told = c.read_u32-size.ensures;
-      some = omega (arith, counts);
-      is = sym c.read_u32-2.ensures ∙ c.if-read_u32-aligned.false;
-      whole = whole;
-      within = omega arith;
-    }) ∙ after-good _ _ text)
+    (sym (ap (place_of _) (held _ _ _ _ _ _ (omega arith) (sym c.read_u32.ensures ∙ c.if-read_u32-ne0.false) c.read_u32-size.ensures (omega (arith, counts)) (sym c.read_u32-2.ensures ∙ c.if-read_u32-aligned.false) whole (omega arith) ∙ after-good _ _ text)
     ∙ ap (λ (n : ℕ). Ok (c.args.at + aligned (c.header_size-header.result + n))) back
     ∙ ap (λ (n : ℕ). Ok (c.args.at + n)) (sym whole)))
