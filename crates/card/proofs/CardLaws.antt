@@ -14,8 +14,8 @@ use Rattle.format.specs.CardWalk.{public_contents_line, public_line, public_line
 use Rattle.format.specs.Display.{page}
 use Rattle.format.specs.Parse.{kind_at}
 use Rattle.format.specs.Walk.{compression_at, places_from, places}
-use Rattle.section_reader.proofs.Accepted.{known-many}
-use Rattle.section_reader.specs.Sections.{Found, sections_from}
+use Rattle.accepted.proofs.Accepted.{known-many}
+use Rattle.accepted.specs.Sections.{Found, sections_from}
 use Rattle.display.specs.Summary.{stored_summary, summary_at, summary_line, page_said}
 use Rattle.display.specs.declared.summary.Summary.{Summary}
 use Rattle.card.specs.Shown.{shown, shown_of}

@@ -1,6 +1,6 @@
 -- What a card shows of what is said of a section.
 use Rattle.std.specs.Prelude.{Option, None, Some}
-use Rattle.section_reader.specs.Sections.{Found}
+use Rattle.accepted.specs.Sections.{Found}
 use Rattle.display.specs.Summary.{summary_of}
 use Rattle.display.specs.declared.summary.Summary.{Summary}
 use Rattle.display.specs.declared.summary.Summary.TheVariants.{Uncompressed, Zlib, SourceNames, Arguments, Unknown}

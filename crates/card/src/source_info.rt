@@ -4,9 +4,9 @@ ghost use Rattle.format.specs.CardWalk.{card};
 ghost use Rattle.format.proofs.Measured.{card-by-walk};
 ghost use Rattle.card.specs.Shown.{shown_of};
 
+use accepted::{CheckedSection, Payload, known_sections};
 use display::{Page, Summary, summarize, write_page};
 use job::Job;
-use section_reader::{CheckedSection, Payload, known_sections};
 
 pub struct Card;
 
@@ -28,6 +28,7 @@ impl Page for Card {
     }
 }
 
+// As of the listing but for the law that finds it. An impl of `Job` for every page would tie crates display and job together.
 impl Job for Card {
     ghost made = { card_of };
 

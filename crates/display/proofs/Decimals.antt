@@ -3,7 +3,7 @@
 use Prim.Native.Nat.{ℕ, zero, suc, ◌-◌, ◌/◌, ◌%◌, ◌^◌, ◌≤◌, ◌<◌}
 use mathlib.Core.List.{List, [], ◌∷◌, ◌++◌}
 use mathlib.Core.Path.{◌≡◌, sym, ap₂, ◌∙◌}
-use native.Mathlib.Nat.{pow-suc, pow-le-pow_right}
+use native.Mathlib.Nat.{pow-suc, pow-le-pow_right, one-le-pow}
 use native.Mathlib.Decide.{dec_le}
 use native.Mathlib.Omega.{arith}
 use borrow.Author.Tests.{lt-ltb}
@@ -14,11 +14,6 @@ use Rattle.format.proofs.DecimalLaws.{decimal-last, decimal-more}
 same-digit : (n : ℕ) → n < 10 → hex_digit_ascii n ≡ digit n
 same-digit n h = rw (lt-ltb n 10 h)
 
--- a power of ten is at least one
-pow-least : (k : ℕ) → 1 ≤ 10 ^ k
-pow-least zero = omega arith
-pow-least (suc k) = omega (arith, pow-suc 10 k, pow-least k)
-
 pub digits_decimal : (k n : ℕ) → IsDigitCount 10 1 n k → last_digits 10 k n ≡ decimal n
 digits_decimal zero n (least, below, above) = absurd (omega arith)
 digits_decimal (suc zero) n (least, below, above) =
@@ -28,7 +23,7 @@ digits_decimal (suc zero) n (least, below, above) =
 digits_decimal (suc (suc k)) n (least, below, above) =
     let before : suc (suc k) - 1 ≡ suc k = omega arith in
     let low : 10 ^ suc k ≤ n = rw (← before) (above (omega arith)) in
-    let big : 10 ≤ n = omega (arith, pow-suc 10 k, pow-least k) in
+    let big : 10 ≤ n = omega (arith, pow-suc 10 k, one-le-pow k 10 (omega arith)) in
     let rest = digits_decimal (suc k) (n / 10) (omega arith, omega (arith, pow-suc 10 (suc k)), λ h. (let one : suc k - 1 ≡ k = omega arith in rw one (omega (arith, pow-suc 10 k)))) in
     ap₂ (λ (l : List ℕ) (d : ℕ). l ++ (d ∷ [])) rest (same-digit (n % 10) (omega arith)) ∙ sym (decimal-more n big)
 

@@ -12,7 +12,7 @@ use Rattle.format.specs.Display.{ascii, decimal, hex, plain_line, packed_line, n
 use Rattle.std.proofs.lemmas.List.{length-map, map-append}
 use Rattle.std.specs.List.{filter_map}
 use Rattle.std.specs.Prelude.{Option}
-use Rattle.section_reader.specs.Sections.{Found, sections}
+use Rattle.accepted.specs.Sections.{Found, sections}
 use Rattle.display.proofs.Numbered.{items}
 use Rattle.display.specs.Summary.{records_line, summary_line, page_of, page_said}
 use Rattle.display.specs.declared.summary.Summary.{Summary}

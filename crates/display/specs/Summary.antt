@@ -8,7 +8,7 @@ use Rattle.layout.specs.declared.section_type.SourceInfoSectionType.{SourceInfoS
 use Rattle.layout.specs.declared.section_type.SourceInfoSectionType.TheVariants as kind
 use Rattle.format.specs.Display.{ascii, decimal, heading, lines, page, plain_line, packed_line, names_line, arguments_line, unknown_line}
 use Rattle.format.specs.Walk.{compression_at}
-use Rattle.section_reader.specs.Sections.{Found, sections}
+use Rattle.accepted.specs.Sections.{Found, sections}
 use Rattle.display.specs.declared.summary.Summary.{Summary}
 use Rattle.display.specs.declared.summary.Summary.TheVariants.{Uncompressed, Zlib, SourceNames, Arguments, Unknown}
 

@@ -10,25 +10,15 @@ mod number;
 mod page;
 mod summary;
 
-ghost use Rattle.std.specs.Prelude.{◌≡◌, ◌+◌, ◌≤◌, length};
+ghost use Rattle.std.specs.Prelude.{◌≡◌, ◌≤◌, length};
 ghost use Rattle.std.proofs.lemmas.List.Edits.{sets};
-ghost use Rattle.format.specs.Display.{line as Display·line};
 ghost use Rattle.format.specs.Print.{number_line};
-ghost use Rattle.display.specs.Summary.{summary_line};
 
 use crate::number::write_number;
+pub use line::write_line;
 pub use number::{hex_digit, write_decimal};
 pub use page::{Page, write_heading, write_page};
 pub use summary::{Summary, summarize};
-
-// The line of a section that has a place in the listing. Answers the place after it.
-pub fn write_line(output: &mut [u8], at: u32, place: u32, summary: Summary) -> usize
-    ensures value { result ≡ at + length (Display·line place (summary_line summary)) }
-    ensures upper_bound { result ≤ at + 128 }
-    ensures output_after { output.new ≡ sets output.old at (Display·line place (summary_line summary)) }
-{
-    line::write_line(output, at as usize, place, summary)
-}
 
 // The line of a refused call, with its number. Answers its length.
 #[tactic(auto, using(crate::proofs::LineLaws::joined), unfolding(format::specs::Display::ascii))]

@@ -45,14 +45,14 @@ fn write_unknown(output: &mut [u8], at: usize, place: u32, kind: u16, bytes: u32
     write_number(output, next + 7, bytes, b" bytes\n")
 }
 
-// The line of a section that has a place in the listing.
+// The line of a section that has a place in the listing. Answers the place after it.
 #[tactic(auto, using(crate::proofs::LineLaws::whole_lines), unfolding(format::specs::Display::ascii))]
-pub fn write_line(output: &mut [u8], at: usize, place: u32, summary: Summary) -> usize
-    requires { at ≤ 2 ^ 40 }
+pub fn write_line(output: &mut [u8], at: u32, place: u32, summary: Summary) -> usize
     ensures value { result ≡ at + length (line place (summary_line summary)) }
     ensures upper_bound { result ≤ at + 128 }
     ensures output_after { output.new ≡ sets output.old at (line place (summary_line summary)) }
 {
+    let at = at as usize;
     match summary {
         Summary::Uncompressed(count) => write_records(
             output,

@@ -46,7 +46,7 @@ pub fn hex_digit<const UPPER: bool>(n: u8) -> u8
     }
 }
 
-// A number in four hexadecimal digits.
+// A number in four hexadecimal digits. By hand for the reason that `write_decimal` has.
 #[tactic(auto, unfolding(format::specs::Display::hex))]
 pub fn write_hex(output: &mut [u8], at: usize, n: u16)
     ensures { output.new ≡ sets output.old at (hex 4 n) }

@@ -4,14 +4,14 @@ ghost use Rattle.std.specs.Iterator.{Drains, UpTo};
 ghost use Rattle.std.specs.List.{filter_map};
 ghost use Rattle.std.proofs.lemmas.List.Edits.{sets};
 ghost use Rattle.format.specs.Display.{heading};
-ghost use Rattle.section_reader.specs.Sections.{Found, sections};
+ghost use Rattle.accepted.specs.Sections.{Found, sections};
 ghost use Rattle.display.specs.Summary.{page_of, page_said};
 ghost use Rattle.display.specs.declared.summary.Summary.{Summary as Said};
 
+use crate::line::write_line;
 use crate::number::write_number;
 use crate::summary::Summary;
-use crate::write_line;
-use section_reader::{CheckedSection, Payload, Sections};
+use accepted::{CheckedSection, Payload, Sections};
 
 // What a page says of the sections of a payload.
 pub trait Page {

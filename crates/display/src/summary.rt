@@ -2,7 +2,7 @@
 ghost use Rattle.std.specs.Prelude.{◌≡◌};
 ghost use Rattle.display.specs.Summary.{summary_at};
 
-use section_reader::{Body, CheckedSection};
+use accepted::{Body, CheckedSection};
 
 // How many records the section has, and of packed contents how many bytes they store; of a section of an unknown kind, its
 // kind and the bytes of its body.

@@ -59,9 +59,9 @@ itself : (b : ℕ) → is_any sought b ≡ false → escaped b ≡ b ∷ []
 itself b h = go (eqb b backslash) (eqb b tab) (eqb b newline) h
   where
     go : (x y z : Bool) → (x || (y || (z || false))) ≡ false → cond x (backslash ∷ 92 ∷ []) (cond y (backslash ∷ 116 ∷ []) (cond z (backslash ∷ 110 ∷ []) (b ∷ []))) ≡ b ∷ []
-    go true y z e = let z : ◌≡◌ {A = ℕ} 0 1 = cc in absurd (omega arith)
-    go false true z e = let z : ◌≡◌ {A = ℕ} 0 1 = cc in absurd (omega arith)
-    go false false true e = let z : ◌≡◌ {A = ℕ} 0 1 = cc in absurd (omega arith)
+    go true y z e = absurd cc
+    go false true z e = absurd cc
+    go false false true e = absurd cc
     go false false false e = refl
 
 -- bytes up to one that is escaped stand for themselves

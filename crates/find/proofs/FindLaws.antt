@@ -56,8 +56,8 @@ none-found (a ∷ sought) block e k d h = go (list_any (λ b. eqb b a) block) re
         (has || list_any (λ a. list_any (λ b. eqb b a) block) sought) ≡ false →
         (list_any (λ a. list_any (λ b. eqb b a) block) sought ≡ false → is_any sought b ≡ false) →
         (is || is_any sought b) ≡ false
-    go true q is p f more = let z : ◌≡◌ {A = ℕ} 0 1 = cc in absurd (omega arith)
-    go false q true p f more = let has : false ≡ true = sym q ∙ list_any_at (λ b. eqb b a) block k d h p in let z : ◌≡◌ {A = ℕ} 0 1 = cc in absurd (omega arith)
+    go true q is p f more = absurd cc
+    go false q true p f more = let has : false ≡ true = sym q ∙ list_any_at (λ b. eqb b a) block k d h p in absurd cc
     go false q false p f more = more f
 
 module _ (passes : ℕ → Bool) where
@@ -160,8 +160,7 @@ module _ (passes : ℕ → Bool) where
           let least : k < n = omega (arith, length-take n s) in
           let none = until-before s k (omega (arith, ltb-false (until passes s) n e)) in
           let some = ap passes (sym (get_or-take n s k 0 least)) ∙ until-at (take n s) h in
-          let z : ◌≡◌ {A = ℕ} 0 1 = cc in
-          absurd (omega arith)
+          absurd cc
 
   -- a prefix that ends at the first or before has none
   pub until-take : (s : List ℕ) (n : ℕ) → n ≤ until passes s → until passes (take n s) ≡ length (take n s)

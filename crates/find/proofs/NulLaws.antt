@@ -72,7 +72,7 @@ nul-place s n e = go (has_nul s) refl e
   where
     go : (b : Bool) → has_nul s ≡ b → Some n ≡ cond b (Some (until_nul s)) None → (n ≡ until_nul s) × (until_nul s < length s)
     go true h e = (cc, ltb-true _ _ h)
-    go false h e = let z : ◌≡◌ {A = ℕ} 0 1 = cc in absurd (omega arith)
+    go false h e = absurd cc
 
 pub no-nul : (s : List ℕ) → None ≡ first_nul s → length s ≤ until_nul s
 no-nul s e = ltb-false _ _ (sym (some-nul s) ∙ ap is_some (sym e))

@@ -1,4 +1,4 @@
-// Where a byte is found that is one of some, mostly of one.
+// The first place of a byte that is one of those sought; mostly one is sought.
 //
 // Bytes that are none of them are passed over in blocks, and what is left of them one by one. A block has a fixed size, so
 // that to look for a byte in it is compiled to a test of all of it at once, which costs no more than that of one byte.
@@ -8,9 +8,9 @@ ghost use Rattle.find.specs.Find.{until, is_any};
 
 const BLOCK: usize = 16;
 
-// How many bytes stand before the first that is sought; all of them where there is none. A number, and no `Option`: each
-// caller wants where a run ends, whatever ends it; those of `find_from` too, and where it matters they compare the end with
-// the length. Inlined, since most searches are short.
+// How many bytes stand before the first that is sought; all of them where there is none. A number, and no `Option`: callers want
+// where a run ends, whatever ends it. A line's parts are stored by their ends; whether a newline or a NUL was there `split_line` and
+// `find_nul` ask by the length. Inlined, since most searches are short.
 #[inline(always)]
 pub fn find_any<const N: usize>(bytes: &[u8], sought: &[u8; N]) -> usize
     ensures { result ≡ until (is_any sought.now) bytes.now }

@@ -1,5 +1,5 @@
 -- Measure, then store: a call that writes what a walk finds twice, first to an output of no bytes. What it answers and leaves is what its job's definition says:
--- one law for the listing, the card and the public copy.
+-- one law for the listing, the card, the public copy and the sheet of a payload, whose walk is in sheet/proofs/SheetFound.antt.
 -- Assumes nothing.
 use Rattle.std.specs.Prelude.{Err, Ok}
 use Rattle.layout.specs.Refusals.{Answer}

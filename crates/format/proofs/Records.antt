@@ -20,9 +20,6 @@ use Rattle.format.specs.Sections.{Name, Pair, Section, plain, packed, names, arg
 use Rattle.format.specs.WellFormed.{All}
 use Rattle.format.proofs.RecordsByTag.{leading-more, leading-ends}
 
-pub some_same : {a b : Tag} → ◌≡◌ {A = Option Tag} (Some a) (Some b) → a ≡ b
-some_same q = cc
-
 -- ---- a record by its place and tag
 
 -- where a record may stand: it begins a section, or it is an entry of what stands before it, and after it others of its tag may stand
@@ -150,7 +147,7 @@ leading-back t f own back (r ∷ rs) (ok, oks) =
     elim (tag-discrete (Some r.tag) (Some t)) [
       | yes q ↦
           rw (leading-more (Some t) f r rs q, leading-more (Some t) (λ (r : Record). r) r rs q)
-          (ap₂ (λ (a : Record) (l : List Record). a ∷ l) (back r ok (some_same q)) (leading-back t f own back rs oks))
+          (ap₂ (λ (a : Record) (l : List Record). a ∷ l) (back r ok (cc)) (leading-back t f own back rs oks))
       | no n ↦ rw (leading-ends (Some t) f r rs n, leading-ends (Some t) (λ (r : Record). r) r rs n)
     ]
 

@@ -14,7 +14,7 @@ use Rattle.table.proofs.Tags.{tag-discrete}
 use Rattle.format.specs.Records.{Record, number_count, text_count, is_placed, in_order, content_record, name_record, pair_record, records_of, records, number, text, name_of, pair_of, leading, begun, sections}
 use Rattle.format.specs.Sections.{Section, plain, packed, names, arguments, unknown}
 use Rattle.format.specs.WellFormed.{Bytes, All, Text, NameOk, PairOk, WellFormed}
-use Rattle.format.proofs.Records.{Shaped, some_same}
+use Rattle.format.proofs.Records.{Shaped}
 use Rattle.format.proofs.RecordsByTag.{leading-more, leading-ends}
 use Rattle.format.proofs.RowsByTag.{all_append, all-at}
 use Rattle.format.proofs.TextsOk.{empty-text}
@@ -62,7 +62,7 @@ leading-ok :
 leading-ok P t f each [] oks = unfold leading in tt
 leading-ok P t f each (r ∷ rs) (ok, oks) =
     elim (tag-discrete (Some r.tag) (Some t)) [
-      | yes q ↦ rw (leading-more (Some t) f r rs q) (each r (subst (λ (t : Tag). RecordOk t r) (some_same q) ok), leading-ok P t f each rs oks)
+      | yes q ↦ rw (leading-more (Some t) f r rs q) (each r (subst (λ (t : Tag). RecordOk t r) (cc) ok), leading-ok P t f each rs oks)
       | no n ↦ rw (leading-ends (Some t) f r rs n) tt
     ]
 

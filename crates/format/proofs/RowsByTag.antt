@@ -2,14 +2,13 @@
 -- Assumes nothing.
 use Rattle.std.specs.Prelude.{Option}
 use Prim.Native.Nat.{ℕ, zero, suc, ◌<◌}
-use mathlib.Core.List.{List, [], ◌∷◌, ◌++◌, map, flat_map}
+use mathlib.Core.List.{List, [], ◌∷◌, ◌++◌, map}
 use mathlib.Core.Path.{◌≡◌, refl, subst}
 use native.Mathlib.Omega.{arith}
 use lib.ListN.{length, get_or}
 use Rattle.table.specs.Tags.{tag_of}
 use Rattle.table.specs.declared.row.Row.{Row}
 use Rattle.table.specs.declared.tag.Tag.{Tag}
-use Rattle.table.proofs.Leading as by-tag
 use Rattle.table.proofs.Leading.{first-leads, none-leads}
 use Rattle.table.proofs.Tags.{tag-discrete}
 use Rattle.format.specs.Resolve.{leading}
@@ -51,20 +50,6 @@ module _ {A : Type 0} (tag : Option Tag) (f : Row → A) (r : Row) (rows : List 
   pub leading-ends : (tag_of r.tag ≡ tag → ⊥) → leading tag f (r ∷ rows) ≡ []
   unfolding leading
   leading-ends n = none-leads own tag f r rows n
-
--- they are as many, whatever they are read as, and so are the bytes that they are written as
-module _ {A : Type 0} (tag : Option Tag) (f : Row → A) where
-  pub leading-count : (rows : List Row) → length (leading tag f rows) ≡ length (leading tag (λ (r : Row). r) rows)
-  unfolding leading
-  leading-count rows = by-tag.leading-count own tag f rows
-
-  pub leading-bytes :
-      (bytes : Row → List ℕ) (g : A → List ℕ) →
-      ((r : Row) → tag_of r.tag ≡ tag → bytes r ≡ g (f r)) →
-      (rows : List Row) →
-      flat_map bytes (leading tag (λ (r : Row). r) rows) ≡ flat_map g (leading tag f rows)
-  unfolding leading
-  leading-bytes bytes g same rows = by-tag.leading-bytes own tag f bytes g same rows
 
 module _ (Known : Option Tag → Row → Type 0) {A : Type 0} (tag : Option Tag) (f : Row → A) where
   pub leading-all :

@@ -1,6 +1,6 @@
 -- The walk goes forward, step by step: what the loops and branches of a second pass need of it.
 -- Assumes nothing.
-use Prim.Native.Nat.{ℕ, zero, suc, ◌+◌, ◌-◌, ◌≤◌, ◌<◌}
+use Prim.Native.Nat.{ℕ, zero, suc, ◌+◌, ◌≤◌}
 use mathlib.Core.List.{List}
 use mathlib.Core.Path.{◌≡◌, refl, ap}
 use native.Mathlib.Omega.{arith}
@@ -8,13 +8,6 @@ use lib.ListN.{length}
 use Rattle.wire.specs.Number.{u32_at}
 use Rattle.format.specs.Parse.{after_pair}
 use Rattle.format.specs.Walk.{places_from, pair_at, pairs_end}
-
--- with one more done, one fewer is left
-pub one_fewer : (count done : ℕ) → done < count → count - done ≡ suc (count - (done + 1))
-one_fewer count done h = omega arith
-
-pub none_left : (count done : ℕ) → count ≤ done → count - done ≡ 0
-none_left count done h = omega arith
 
 module _ (p : List ℕ) where
   -- ---- pairs

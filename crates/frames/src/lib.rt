@@ -21,8 +21,8 @@ use layout::{SourceCompression, SourceInfoSectionType};
 
 // Closes a section that stands at `start` and whose stored bytes end at `end`: stores its section header, and zeros
 // from `end` on up to a multiple of 4. Answers the place after it. A section of an unknown kind has no other header.
-// Start, end and count go as numbers, here and below: each caller holds them in a struct or in places of its own, and one of this
-// crate would be made anew at each call.
+// Start, end and count go as numbers, here and below: crate write has them beside the index of a row, and the two other callers in
+// variables of their own, so that a struct of this crate would be made anew at each call.
 #[tactic(auto, using(wire::proofs::PaddingLaws::padding_bounds), unfolding(wire::specs::Padding::aligned))]
 pub fn close_section(output: &mut [u8], start: u32, end: u32, kind: SourceInfoSectionType) -> usize
     ensures value { result ≡ start + aligned (end - start) }

@@ -1,7 +1,7 @@
 -- The lines that bytes are: the first and those after it; and those of a whole sheet that is read.
 -- Assumes nothing.
 use Rattle.std.specs.Prelude.{Option, Some, None, Ok, unwrap_or}
-use Prim.Native.Nat.{ℕ, ◌+◌, ◌-◌, ◌≤◌}
+use Prim.Native.Nat.{ℕ, ◌+◌, ◌≤◌}
 use mathlib.Core.Bool.{true}
 use mathlib.Core.List.{List, [], ◌∷◌, map}
 use mathlib.Core.Path.{◌≡◌, refl, sym, ap, ap₂, subst, ◌∙◌}

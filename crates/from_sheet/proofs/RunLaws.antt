@@ -14,13 +14,14 @@ use Rattle.layout.proofs.Lists.{flat_map-least}
 use Rattle.table.specs.Tags.{same_tag, entry_tag, entry_after, opens_section}
 use Rattle.table.specs.declared.tag.Tag.{Tag}
 use Rattle.table.specs.declared.tag.Tag.TheVariants as tag
+use Rattle.table.proofs.Leading.{leading-count, leading-bytes}
 use Rattle.table.proofs.Tags.{tag_same, same_tag_lem, other_tag, tag-discrete, section-no-entry}
 use Rattle.format.specs.Encoding.{content_entry, name_entry, pair_entry}
 use Rattle.format.specs.Records.{Record, text, name_of, pair_of, leading, begun, is_placed, in_order, sections}
 use Rattle.format.specs.Sections.{Name, Pair, Section}
 use Rattle.format.proofs.Encoding.{length-content_entry, length-name_entry, length-pair_entry}
-use Rattle.format.proofs.Records.{Placed, placed, begins, entry, begins-none, some_same, leading-no-tag}
-use Rattle.format.proofs.RecordsByTag.{leading-more, leading-ends, leading-count, leading-bytes}
+use Rattle.format.proofs.Records.{Placed, placed, begins, entry, begins-none, leading-no-tag}
+use Rattle.format.proofs.RecordsByTag.{leading-more, leading-ends}
 use Rattle.from_sheet.specs.Run.{entry_bytes, run, run_bytes, past}
 
 -- ---- record by record
@@ -81,8 +82,8 @@ run-leading :
     ((r : Record) → r.tag ≡ t → entry_bytes r.tag r ≡ g (f r)) →
     (rs : List Record) →
     run_bytes (Some t) rs ≡ flat_map g (leading (Some t) f rs)
-unfolding run_bytes
-run-leading t f g h rs = leading-bytes (Some t) f (λ (r : Record). entry_bytes r.tag r) g (λ r q. h r (some_same q)) rs
+unfolding run_bytes leading
+run-leading t f g h rs = leading-bytes _ (Some t) f (λ (r : Record). entry_bytes r.tag r) g (λ r q. h r (cc)) rs
 
 module _ (rs : List Record) where
   pub run-contents : run_bytes (Some tag.Content) rs ≡ flat_map content_entry (leading (Some tag.Content) (text 0) rs)
@@ -120,7 +121,10 @@ module _ (rs : List Record) where
       ((a : A) → 1 ≤ length (g a)) →
       run_bytes t rs ≡ flat_map g (leading t f rs) →
       length (run t rs) ≤ length (run_bytes t rs)
-  as-many t f g least is = omega (arith, ap length is, leading-count t f rs, flat_map-least g least (leading t f rs))
+  unfolding leading
+  as-many t f g least is =
+      let many : length (leading t f rs) ≡ length (run t rs) = leading-count _ t f rs in
+      omega (arith, ap length is, many, flat_map-least g least (leading t f rs))
 
   contents-many : length (run (Some tag.Content) rs) ≤ length (run_bytes (Some tag.Content) rs)
   contents-many = as-many (Some tag.Content) (text 0) content_entry content-least (run-contents rs)

@@ -4,20 +4,20 @@ use Rattle.std.specs.Prelude.{Option, Some}
 use Prim.Native.Nat.{ℕ, ◌-◌, ◌≤◌}
 use mathlib.Core.Bool.{true}
 use mathlib.Core.List.{List, [], ◌∷◌}
-use mathlib.Core.Path.{◌≡◌, refl, sym}
+use mathlib.Core.Path.{◌≡◌, refl, sym, ap}
 use native.Mathlib.Omega.{arith}
 use lib.ListN.{length, get_or}
 use Rattle.table.specs.Tags.{entry_tag, begins_section, headers_size}
 use Rattle.table.specs.declared.tag.Tag.{Tag}
 use Rattle.table.specs.declared.tag.Tag.TheVariants as tag
+use Rattle.table.proofs.Leading.{leading-count}
 use Rattle.layout.specs.Kinds.{compression_number}
 use Rattle.layout.specs.declared.compression.SourceCompression.TheVariants as compression
 use Rattle.layout.specs.declared.section_type.SourceInfoSectionType.{SourceInfoSectionType}
 use Rattle.layout.specs.declared.section_type.SourceInfoSectionType.TheVariants as kind
 use Rattle.format.specs.Encoding.{stored_bytes, body_header, kind_of}
-use Rattle.format.specs.Records.{Record, number_count, number, text, name_of, pair_of, begun}
+use Rattle.format.specs.Records.{Record, number_count, number, text, leading, begun}
 use Rattle.format.specs.Sections.{Section, unknown}
-use Rattle.format.proofs.RecordsByTag.{leading-count}
 use Rattle.format.proofs.SectionBytes.{start}
 use Rattle.frames.specs.Frame.{framed, contents_header, names_header, arguments_header}
 use Rattle.sheet.specs.Fields.{bytes_of_pairs}
@@ -39,20 +39,20 @@ module _ (r : Record) (rs : List Record) where
   count t = length (run t rs)
 
   pub plain-parts : Parts (section_of tag.PlainContents r rs) (run_bytes (Some tag.Content) rs) (λ n. contents_header (number 0 r) (compression_number compression.None) n n (count (Some tag.Content))) kind.SourceContents
-  unfolding begun stored_bytes body_header kind_of
-  plain-parts = record { stored = sym (run-contents rs); headed = λ n. rw (leading-count (Some tag.Content) (text 0) rs) refl; kinded = refl }
+  unfolding begun leading stored_bytes body_header kind_of
+  plain-parts = record { stored = sym (run-contents rs); headed = λ n. ap (contents_header _ _ n n) (leading-count _ _ _ rs); kinded = refl }
 
   pub packed-parts : Parts (section_of tag.PackedContents r rs) (text 0 r) (λ n. contents_header (number 0 r) (compression_number compression.Zlib) n (number 2 r) (number 1 r)) kind.SourceContents
   unfolding begun stored_bytes body_header kind_of
   packed-parts = record { stored = refl; headed = λ n. refl; kinded = refl }
 
   pub names-parts : Parts (section_of tag.Names r rs) (run_bytes (Some tag.Name) rs) (λ n. names_header n (count (Some tag.Name))) kind.SourceNames
-  unfolding begun stored_bytes body_header kind_of
-  names-parts = record { stored = sym (run-names rs); headed = λ n. rw (leading-count (Some tag.Name) name_of rs) refl; kinded = refl }
+  unfolding begun leading stored_bytes body_header kind_of
+  names-parts = record { stored = sym (run-names rs); headed = λ n. ap (names_header n) (leading-count _ _ _ rs); kinded = refl }
 
   pub arguments-parts : Parts (section_of tag.Arguments r rs) (run_bytes (Some tag.Pair) rs) (λ n. arguments_header n (count (Some tag.Pair))) kind.Arguments
-  unfolding begun stored_bytes body_header kind_of
-  arguments-parts = record { stored = sym (run-pairs rs); headed = λ n. rw (leading-count (Some tag.Pair) pair_of rs) refl; kinded = refl }
+  unfolding begun leading stored_bytes body_header kind_of
+  arguments-parts = record { stored = sym (run-pairs rs); headed = λ n. ap (arguments_header n) (leading-count _ _ _ rs); kinded = refl }
 
   pub unknown-parts : Parts (section_of tag.Unknown r rs) (text 0 r) (λ n. []) (kind.Unknown (number 0 r))
   unfolding begun stored_bytes body_header kind_of

@@ -49,7 +49,7 @@ impl<'a> LineRecord<'a> {
         read_number(self.line.field(index)).unwrap_or(0)
     }
 
-    // The kind of an unknown section. Here, where it is known to have 16 bits.
+    // The kind of an unknown section, which has 16 bits: the line was checked by the rule of unknown sections.
     pub fn kind(&self) -> u16
         requires { self.now.tag ≡ Unknown }
         ensures { result ≡ number 0 self.now }

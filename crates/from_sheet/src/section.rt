@@ -88,9 +88,8 @@ fn close(output: &mut [u8], record: &LineRecord<'_>, start: u32, end: u32, count
             let kind = SourceInfoSectionType::Unknown(record.kind());
             frames::close_section(output, start, end, kind)
         }
-        Tag::Content => start as usize,
-        Tag::Name => start as usize,
-        Tag::Pair => start as usize,
+        // an entry begins no section
+        _ => start as usize,
     }
 }
 

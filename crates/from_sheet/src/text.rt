@@ -1,7 +1,6 @@
 // The text that a field says: its escapes are resolved.
-ghost use Rattle.std.specs.Prelude.{◌≡◌, ◌+◌, ◌≤◌, length};
+ghost use Rattle.std.specs.Prelude.{◌≡◌, ◌+◌, ◌<◌, ◌^◌, length};
 ghost use Rattle.std.proofs.lemmas.List.Edits.{sets};
-ghost use Rattle.format.specs.Encoding.{limit};
 ghost use Rattle.sheet.specs.Fields.{meant, unescape};
 ghost use Rattle.from_sheet.specs.Escape.{is_pair};
 
@@ -27,9 +26,9 @@ fn is_pair(bytes: &[u8]) -> bool
 }
 
 // A whole text. Bytes that stand for themselves are copied in runs; a backslash with nothing after it is one of them.
-// Answers the place after it.
+// Answers the place after it. The bound is that of a slice's end, so that the sum fits.
 pub fn write_unescaped(output: &mut [u8], at: usize, field: &[u8]) -> usize
-    requires { at + length (unescape field.now) ≤ limit }
+    requires { at + length (unescape field.now) < 2 ^ 63 }
     ensures value { result ≡ at + length (unescape field.now) }
     ensures output_after { output.new ≡ sets output.old at (unescape field.now) }
 {

@@ -22,8 +22,8 @@ ghost use Rattle.format.specs.Output.{answer};
 ghost use Rattle.format.specs.Output.{output_after as Output·output_after};
 ghost use Rattle.format.proofs.Measured.{ByWalk};
 
+use accepted::Payload;
 use layout::{Answer, Refusal};
-use section_reader::Payload;
 
 pub trait Job {
     // What the job makes of a payload, or its refusal.

@@ -1,10 +1,8 @@
 -- Which faults a definition that may refuse can come to: those of its tests, and those of its steps.
 -- Assumes nothing.
 use Rattle.std.specs.Prelude.{Err, Ok}
-use Prim.Native.Nat.{ℕ}
 use mathlib.Core.Bool.{Bool, true, false}
 use mathlib.Core.Path.{◌≡◌, refl, subst}
-use native.Mathlib.Omega.{arith}
 use Rattle.layout.specs.Checked.{Checked, check, then}
 use Rattle.layout.specs.declared.refusal.Refusal.{Refusal}
 
@@ -13,7 +11,7 @@ pub record Only {A : Type 0} (Allowed : Refusal → Type 0) (c : Checked A) : Ty
   pub only : (r : Refusal) → c ≡ Err r → Allowed r
 
 pub only-value : {Allowed : Refusal → Type 0} {A : Type 0} (a : A) → Only Allowed (Ok a)
-only-value a = record { only = λ r e. let z : ◌≡◌ {A = ℕ} 0 1 = cc in absurd (omega arith) }
+only-value a = record { only = λ r e. absurd cc }
 
 pub only-test :
     {Allowed : Refusal → Type 0} {A : Type 0} (t : Bool) (refusal : Refusal) (next : Unit {0} → Checked A) →

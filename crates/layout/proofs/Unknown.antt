@@ -12,7 +12,7 @@ section_type-unknown (suc (suc zero)) h = absurd (omega arith)
 section_type-unknown (suc (suc (suc n))) h = refl
 
 pub unknown-least : (n kind : ℕ) → section_type n ≡ Unknown kind → 3 ≤ n
-unknown-least zero kind e = let z : ◌≡◌ {A = ℕ} 0 1 = cc in absurd (omega arith)
-unknown-least (suc zero) kind e = let z : ◌≡◌ {A = ℕ} 0 1 = cc in absurd (omega arith)
-unknown-least (suc (suc zero)) kind e = let z : ◌≡◌ {A = ℕ} 0 1 = cc in absurd (omega arith)
+unknown-least zero kind e = absurd cc
+unknown-least (suc zero) kind e = absurd cc
+unknown-least (suc (suc zero)) kind e = absurd cc
 unknown-least (suc (suc (suc n))) kind e = omega arith

@@ -1,4 +1,5 @@
-// What the entries of a section are.
+// What the entries of a section are. A value, since what takes it is called with either kind; in crate accepted the size of the header
+// is a const parameter, since there an entry's type says what is known of it.
 ghost use Rattle.std.specs.Prelude.{◌≡◌, ◌≤◌};
 ghost use Rattle.layout.specs.Kinds.{header_size};
 

@@ -56,3 +56,5 @@ word_passed t u ts w e is h = rw (same_is, ← is, ← e) h
 pub word_unknown : (w : List ℕ) → None ≡ tag_among [] w
 unfolding tag_among
 word_unknown w = refl
+
+pub ruleset words = (word_found, word_passed, word_unknown)

@@ -18,6 +18,7 @@ fn is_word<const N: usize>(bytes: &[u8], word: &[u8; N]) -> bool
 
 // The tag that has a word, if one has it. A `match` on the words is compiled to a test of each byte, and its proof has a
 // case for each.
+#[tactic(auto, using(crate::proofs::FieldLaws::words), unfolding(format::specs::Display::ascii))]
 pub(crate) fn tag_of_word(word: &[u8]) -> Option<Tag>
     ensures { result ≡ tag_of_word word.now }
 {

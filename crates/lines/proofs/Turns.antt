@@ -66,9 +66,6 @@ module _ (s : List ℕ) (end : ℕ) (found : end ≡ 0 + until (is_any (newline 
 
 -- ---- what the check of a line told
 
-pub same-refusal : {A : Type 0} {a b : Refusal} → ◌≡◌ {A = Checked A} (Err a) (Err b) → a ≡ b
-same-refusal e = cc
-
 pub told-refused : (c : Checked Record) (q : Refusal) → line_told c ≡ Err q → c ≡ Err q
 told-refused (Err r) q e = cc
 told-refused (Ok r) q e = absurd cc

@@ -11,7 +11,7 @@ use Rattle.format.specs.Display.{page}
 use Rattle.format.specs.Lines.{contents_line, section_line, line_at, listing}
 use Rattle.format.specs.Parse.{kind_at}
 use Rattle.format.specs.Walk.{compression_at, places_from, places}
-use Rattle.section_reader.specs.Sections.{sections_from}
+use Rattle.accepted.specs.Sections.{sections_from}
 use Rattle.display.specs.Summary.{stored_summary, summary_at, summary_of, summary_line, page_said}
 
 module _ (p : List ℕ) where

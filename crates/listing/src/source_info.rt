@@ -5,9 +5,9 @@ ghost use Rattle.format.specs.Listing.{listed};
 ghost use Rattle.format.proofs.Measured.{listing-by-walk};
 ghost use Rattle.display.specs.Summary.{summary_of};
 
+use accepted::{CheckedSection, Payload};
 use display::{Page, Summary, summarize, write_page};
 use job::Job;
-use section_reader::{CheckedSection, Payload};
 
 pub struct Listing;
 

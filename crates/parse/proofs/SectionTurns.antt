@@ -47,14 +47,12 @@ module _ (p : List ℕ) (count : ℕ) where
   -- so many sections are done and so many rows counted, up to a place. The rows, added to those of the sections that are left, are those of
   -- all; and they are at most half of the bytes passed, so that their number fits.
   pub record Passed (at rows done : ℕ) : Type 0 where
-    pub in_count : done ≤ count
     pub within : at ≤ length p
     pub half : 8 + 2 * rows ≤ at
     pub rest : counted (parse_sections count p 8) ≡ add rows (counted (parse_sections (count - done) p at))
 
   pub begins : 8 ≤ length p → Passed 8 0 0
   begins h = record {
-    in_count = omega arith;
     within = h;
     half = omega arith;
     rest = sym (add_none _ ∙ ap (λ (n : ℕ). counted (parse_sections n p 8)) (sub-zero count));
@@ -98,7 +96,6 @@ module _ (p : List ℕ) (count : ℕ) where
             let bound = half-of-size p at s e more f in
             rw h.sized
             (record {
-              in_count = omega (arith, less);
               within = told.within;
               half = omega (arith, so.half, bound);
               rest =

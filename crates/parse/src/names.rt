@@ -1,4 +1,5 @@
-// Name sections.
+// Name sections. The steps are those of arguments (arguments.rt); start, count and size have other places or widths, and one function
+// of both would be given all of these, and the run.
 ghost use Rattle.std.specs.Prelude.{◌≡◌};
 ghost use Rattle.format.specs.Parse.{parse_names};
 ghost use Rattle.parse.specs.Outcome.{counted};

@@ -57,7 +57,7 @@ fn write_printed<J: Job>(input: &[u8], output: &mut [u8; MOST]) -> usize
     write_answer(answer, output)
 }
 
-// What list_payload prints.
+// What list_payload prints. A function for each program, whose contract names what that program prints.
 pub fn write_listing(input: &[u8], output: &mut [u8; MOST]) -> usize
     ensures value { result ≡ length (list_printed input.now) }
     ensures output_after { output.new ≡ list_printed input.now ++ drop (length (list_printed input.now)) output.old }

@@ -18,7 +18,6 @@ use Rattle.format.specs.PublicCopy.{public_count}
 use Rattle.format.specs.Sections.{plain, packed}
 use Rattle.format.proofs.Encoding.{length-content_entry}
 use Rattle.format.proofs.SectionBytes.{length-section}
-use Rattle.format.proofs.Walking.{one_fewer, none_left}
 use Rattle.frames.specs.Frame.{contents_header, framed, entry_framed}
 use Rattle.frames.proofs.Closed.{section-closed}
 use Rattle.frames.proofs.EntryClosed.{content-closed}
@@ -45,11 +44,11 @@ length-empties (suc count) = omega (arith, length-empties count, length-append (
 -- the next of them, which ends before all of them do
 pub empties-next : (count done : ℕ) → done < count → empties (count - done) ≡ content_entry [] ++ empties (count - (done + 1))
 unfolding flat_map
-empties-next count done more = rw (one_fewer count done more)
+empties-next count done more = let e : count - done ≡ suc (count - (done + 1)) = omega arith in rw e
 
 pub empties-end : (count done : ℕ) → count ≤ done → empties (count - done) ≡ []
 unfolding flat_map
-empties-end count done ended = rw (none_left count done ended)
+empties-end count done ended = let e : count - done ≡ 0 = omega arith in rw e
 
 -- ---- the two kinds: what they store, and the frame around it
 

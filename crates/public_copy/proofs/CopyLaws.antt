@@ -1,14 +1,13 @@
 -- The copy section by section: what it has for the next section, and for those after it.
 -- Assumes nothing.
-use Rattle.std.specs.Prelude.{cond, is_ok, true, Ok}
+use Rattle.std.specs.Prelude.{cond, is_ok, true}
 use Prim.Native.Nat.{ℕ, ◌+◌, ◌≤◌}
 use mathlib.Core.List.{List, [], ◌∷◌, flat_map, append-nil}
-use mathlib.Core.Path.{◌≡◌, refl, sym, ap, ◌∙◌}
+use mathlib.Core.Path.{◌≡◌, refl, ap}
 use native.Mathlib.Omega.{arith}
 use lib.ListN.{length, length-append}
 use Rattle.wire.specs.Number.{u16_at, u32_at}
 use Rattle.wire.proofs.NumberLaws.{length-bytes_of}
-use Rattle.layout.specs.Checked.{Checked}
 use Rattle.layout.proofs.Checked.{is-good}
 use Rattle.layout.specs.Kinds.{known}
 use Rattle.layout.specs.declared.section_type.SourceInfoSectionType.{SourceInfoSectionType}
@@ -24,8 +23,8 @@ use Rattle.format.specs.WellFormed.{Bytes}
 use Rattle.format.proofs.Measured.{copy-by-walk}
 use Rattle.format.proofs.Secrecy.{copy-is-public}
 use Rattle.format.proofs.SectionLaws.{parse-good}
-use Rattle.section_reader.proofs.Accepted.{made-walked}
-use Rattle.section_reader.specs.Sections.{sections_from, sections}
+use Rattle.accepted.proofs.Accepted.{made-walked}
+use Rattle.accepted.specs.Sections.{sections_from, sections}
 use Rattle.public_copy.specs.Joined.{joined, copied}
 
 -- a kind has a section where it is known
@@ -71,15 +70,12 @@ copy-long sections = simp (length-append, length-bytes_of) (omega arith)
 pub copied-all : (p : List ℕ) (count at : ℕ) → flat_map copied (sections_from p count at) ≡ joined (flat_map (copy_at p) (places_from p count at))
 copied-all p count at = made-walked p section_copy (λ (s : List ℕ). s) count at
 
-is-one : (a b : List ℕ) → ◌≡◌ {A = Checked (List ℕ)} (Ok a) (Ok b) → a ≡ b
-is-one a b e = cc
-
 -- it is within the limit, since it is not longer than the payload
 pub copied-within : (p : List ℕ) → Bytes p → is_ok (parse p) ≡ true → 8 + length (flat_map copied (sections p)) ≤ limit
 unfolding accepted copy places
 copied-within p bytes good =
     let (rows, found) = is-good (parse p) good in
     let (c, made, accepted, facts, again, short) = copy-is-public p (bytes, good) in
-    let same : copy p ≡ c = is-one _ _ (sym (copy-by-walk.finds p rows bytes found) ∙ made) in
+    let same : copy p ≡ c = cc (copy-by-walk.finds p rows bytes found) in
     let long = copy-long (flat_map (copy_at p) (places_from p (u16_at p 6) 8)) in
     omega (arith, (parse-good p rows found).0, short, ap length same, long, ap length (copied-all p (u16_at p 6) 8))

@@ -20,7 +20,7 @@ use Rattle.format.specs.Parse.{entries, name_row_at}
 use Rattle.format.proofs.EntryLaws.{entry-good, entries_none, entries-first}
 use Rattle.format.proofs.Stands.{length_part}
 use Rattle.format.specs.Walk.{places_from}
-use Rattle.section_reader.specs.Entries.{entries_from}
+use Rattle.accepted.specs.Entries.{entries_from}
 use Rattle.public_copy.specs.Hidden.{span, hidden}
 
 module _ (p : List ℕ) where

@@ -3,7 +3,7 @@ use Rattle.std.specs.Prelude.{ℕ, ◌+◌, List, [], ◌∷◌}
 use Rattle.std.proofs.lemmas.List.Edits.{sets}
 use Rattle.wire.specs.Number.{u32_at}
 use Rattle.format.specs.Encoding.{u32}
-use Rattle.section_reader.specs.Entries.{Placed}
+use Rattle.accepted.specs.Entries.{Placed}
 
 -- how many bytes entries take
 unfoldable pub span : List Placed → ℕ

@@ -2,7 +2,7 @@
 use Rattle.std.specs.Prelude.{ℕ}
 use mathlib.Core.List.{List, flat_map}
 use Rattle.format.specs.CopyWalk.{section_copy}
-use Rattle.section_reader.specs.Sections.{Found}
+use Rattle.accepted.specs.Sections.{Found}
 
 abbrev pub joined : List (List ℕ) → List ℕ
 joined sections = flat_map (λ (s : List ℕ). s) sections

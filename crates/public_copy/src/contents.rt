@@ -12,7 +12,8 @@ use layout::{SourceCompression, SourceInfoSectionType};
 const EMPTY_SIZE: usize = SourceInfoSectionType::CONTENT_ENTRY_HEADER_SIZE + 4;
 
 // So many empty contents. Answers the place after them. One is closed, and stored so many times: to close each where it
-// stands takes 5 ns more, since where it ends is not known to be 12 bytes on.
+// stands takes 5 ns more, since where it ends is not known to be 12 bytes on. By their number, since places go on past the output's
+// end, where it has no more chunks.
 fn write_entries(output: &mut [u8], to: u32, count: u32) -> u32
     requires { to + 16 * count ≤ limit }
     ensures value { result ≡ to + 16 * count }

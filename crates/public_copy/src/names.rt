@@ -6,7 +6,7 @@ ghost use Rattle.layout.specs.Spans.{part};
 ghost use Rattle.format.specs.Encoding.{limit};
 ghost use Rattle.public_copy.specs.Hidden.{span, hidden};
 
-use section_reader::{CheckedSection, Names};
+use accepted::{CheckedSection, Names};
 
 // The bytes of a section. Answers the place after them.
 pub fn copy_bytes(section: CheckedSection, output: &mut [u8], to: usize) -> usize

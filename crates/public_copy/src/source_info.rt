@@ -7,14 +7,14 @@ ghost use Rattle.format.specs.CopyWalk.{copy as CopyWalk·copy};
 ghost use Rattle.format.specs.Encoding.{limit};
 ghost use Rattle.format.specs.PublicCopy.{public_copy};
 ghost use Rattle.format.proofs.Measured.{copy-by-walk};
-ghost use Rattle.section_reader.specs.Sections.{sections};
+ghost use Rattle.accepted.specs.Sections.{sections};
 ghost use Rattle.public_copy.specs.Joined.{joined, copied};
 
 use crate::contents::write_contents;
 use crate::names::{copy_bytes, hide_sizes};
+use accepted::{Body, CheckedSection, Payload, Sections, known_sections};
 use job::Job;
 use layout::SourceInfoSectionType;
-use section_reader::{Body, CheckedSection, Payload, Sections, known_sections};
 
 // What is left of a section. Answers the place after it.
 fn copy_section(section: CheckedSection, output: &mut [u8], to: usize) -> usize

@@ -3,8 +3,8 @@ use Rattle.std.specs.Prelude.{ℕ, ◌+◌, List, [], ◌∷◌}
 use Rattle.table.specs.Rows.{store_row}
 use Rattle.table.specs.declared.row.Row.{Row}
 use Rattle.format.specs.Walk.{content_at, name_at, pair_at, walk_section}
-use Rattle.section_reader.specs.Entries.{Placed}
-use Rattle.section_reader.specs.Sections.{Found}
+use Rattle.accepted.specs.Entries.{Placed}
+use Rattle.accepted.specs.Sections.{Found}
 
 -- rows stored in a table from an index on
 unfoldable pub store_rows : List ℕ → ℕ → List Row → List ℕ

@@ -11,8 +11,8 @@ ghost use Rattle.format.specs.Parse.{packed_row_at, unknown_row_at};
 ghost use Rattle.format.specs.Walk.{content_at, name_at, pair_at, walk_section, walk};
 ghost use Rattle.read.specs.Store.{store_rows};
 
+use accepted::{Body, CheckedSection, Content, Name, Pair, Payload, Sections};
 use layout::SourceInfoSectionType;
-use section_reader::{Body, CheckedSection, Content, Name, Pair, Payload, Sections};
 use table::Row;
 
 // Stores a row.

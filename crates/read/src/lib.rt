@@ -12,8 +12,8 @@ mod fill;
 ghost use Rattle.std.specs.Prelude.{◌≡◌, length};
 ghost use Rattle.format.specs.Read.{read_answer, read_table};
 
+use accepted::Payload;
 use layout::{Answer, Refusal};
-use section_reader::Payload;
 use table::Row;
 
 // Reads a payload into the rows of a lent table, whole, or refuses it and leaves the table as it was.

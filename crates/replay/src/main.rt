@@ -56,7 +56,8 @@ const UNTOUCHED: u32 = 2_779_096_485;
 
 const UNTOUCHED_BYTE: u8 = 165;
 
-// The value of a hexadecimal digit, and 0 for any other byte.
+// The value of a hexadecimal digit, and 0 for any other byte. Digits are read here by rules of the program's own, which take any
+// text: those of sheets are read where a line was checked.
 fn digit(byte: u8) -> u8
     ensures { result ≤ 15 }
 {
@@ -261,7 +262,7 @@ fn replay_all<W: Write>(out: &mut W, calls: &[u8]) -> io::Result<()> {
     Ok(())
 }
 
-// So many zeros, of which all that is told is how many.
+// So many zeros. A function, so that the proof of `main` has their number alone, and not half a million of them.
 fn zeros<const N: usize>() -> [u8; N]
     ensures { length result ≡ N }
 {

@@ -1,4 +1,1 @@
-pub mod Accepted
 pub mod Taken
-pub mod Walked
-pub mod Entered

@@ -4,7 +4,6 @@ use Rattle.std.specs.Prelude.{Err, Ok}
 use Prim.Native.Nat.{ℕ, ◌+◌}
 use mathlib.Core.List.{List}
 use mathlib.Core.Path.{◌≡◌, ap, sym}
-use native.Mathlib.Omega.{arith}
 use Rattle.wire.specs.Number.{u16_at}
 use Rattle.layout.specs.Checked.{Checked}
 use Rattle.layout.specs.Kinds.{section_type}
@@ -19,7 +18,7 @@ module _ (p : List ℕ) (at : ℕ) where
     pub of-kind : s.kind ≡ section_type (u16_at p (at + 6))
 
   pub section-found : (c : Checked ℕ) (s : Section) → section_found p at c ≡ Ok s → Header c s
-  section-found (Err r) s e = let z : ◌≡◌ {A = ℕ} 0 1 = cc in absurd (omega arith)
+  section-found (Err r) s e = absurd cc
   section-found (Ok n) s e =
       let q : ◌≡◌ {A = Section} (record { kind = section_type (u16_at p (at + 6)); at = at; size = n }) s = cc in
       record { sized = ap (λ (t : Section). Ok t.size) q; placed = ap (λ (t : Section). t.at) (sym q); of-kind = ap (λ (t : Section). t.kind) (sym q) }

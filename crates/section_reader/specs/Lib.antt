@@ -1,4 +1,1 @@
-pub mod Body
-pub mod Entries
 pub mod Section
-pub mod Sections

@@ -83,9 +83,14 @@ escape-within (b ∷ text) = shown-within b (flat_map escaped text) (shown b) (e
 
 -- ---- what is read
 
--- what stands for a byte is how the byte is escaped
-meant-escaped : (c : ℕ) → is_escape c ≡ true → escaped (meant c) ≡ backslash ∷ c ∷ []
-meant-escaped c e = go (eqb c 92) (eqb c 116) (eqb c 110) refl refl refl e
+-- an escape by its second byte, with what it stands for
+pub data Escape : ℕ → ℕ → Type 0 where
+  of_tab : Escape 116 tab
+  of_newline : Escape 110 newline
+  of_backslash : Escape 92 backslash
+
+pub known-escape : (c : ℕ) → is_escape c ≡ true → Escape c (meant c)
+known-escape c e = go (eqb c 92) (eqb c 116) (eqb c 110) refl refl refl e
   where
     go :
         (x y z : Bool) →
@@ -93,11 +98,17 @@ meant-escaped c e = go (eqb c 92) (eqb c 116) (eqb c 110) refl refl refl e
         eqb c 116 ≡ y →
         eqb c 110 ≡ z →
         (x || y || z) ≡ true →
-        escaped (cond y tab (cond z newline backslash)) ≡ backslash ∷ c ∷ []
-    go x true z e f g h = rw (eqb-true c 116 f)
-    go x false true e f g h = rw (eqb-true c 110 g)
-    go true false false e f g h = rw (eqb-true c 92 e)
+        Escape c (cond y tab (cond z newline backslash))
+    go x true z e f g h = rw (eqb-true c 116 f) of_tab
+    go x false true e f g h = rw (eqb-true c 110 g) of_newline
+    go true false false e f g h = rw (eqb-true c 92 e) of_backslash
     go false false false e f g h = absurd cc
+
+-- what stands for a byte is how the byte is escaped
+meant-escaped : {c m : ℕ} → Escape c m → escaped m ≡ backslash ∷ c ∷ []
+meant-escaped of_tab = refl
+meant-escaped of_newline = refl
+meant-escaped of_backslash = refl
 
 itself-escaped : (b : ℕ) → eqb b backslash ≡ false → eqb b tab ≡ false → eqb b newline ≡ false → escaped b ≡ b ∷ []
 itself-escaped b e f g = rw (e, f, g)
@@ -136,7 +147,7 @@ escape-field none w = unfold unescape in refl
 escape-field (byte b {f} e h) ((t, w), (n, v)) =
     ap escape (plain-means b f e) ∙ ap₂ (λ (x y : List ℕ). x ++ y) (itself-escaped b e t n) (escape-field h (w, v))
 escape-field (pair c {f} e h) ((t, (u, w)), (n, (m, v))) =
-    ap escape (escape-means c f) ∙ ap₂ (λ (x y : List ℕ). x ++ y) (meant-escaped c e) (escape-field h (w, v))
+    ap escape (escape-means c f) ∙ ap₂ (λ (x y : List ℕ). x ++ y) (meant-escaped (known-escape c e)) (escape-field h (w, v))
 
 pub text-codec : Codec (λ (text : List ℕ). Unit {0}) escape is_escaped unescape
 text-codec = record {

@@ -4,11 +4,11 @@
 use Rattle.utf8.specs.declared.Utf8Error.{Utf8Error}
 use Rattle.std.specs.Prelude.{Err, Result, Ok}
 use Prim.Native.Nat.{ℕ, zero, suc, ◌+◌, ◌≤◌, ◌<◌}
-use mathlib.Core.Bool.{Bool, true, false, cond, ◌&&◌, ◌||◌, and-eq-true_iff}
+use mathlib.Core.Bool.{Bool, true, false, ◌&&◌, ◌||◌, and-eq-true_iff}
 use mathlib.Core.List.{List, [], ◌∷◌}
 use mathlib.Core.Path.{◌≡◌, refl, sym, ap, ◌∙◌}
 use native.Mathlib.Omega.{arith}
-use borrow.Author.Tests.{leb-true, lt-leb, eqb-true}
+use borrow.Author.Tests.{leb-true, lt-leb}
 use lib.Dec.{leb, eqb, leb-zero, leb-suc-suc, eqb-suc-zero}
 use lib.ListN.{length, drop}
 use Rattle.utf8.specs.Classes.{class_of, length_after}
@@ -19,31 +19,8 @@ use Rattle.find.specs.Find.{until, is_any}
 use Rattle.find.specs.Nul.{until_nul, has_nul}
 use Rattle.find.proofs.FindLaws.{any-one, until-more}
 use Rattle.layout.specs.TextCheck.{check_whole}
-use Rattle.sheet.specs.Fields.{tab, newline, backslash, is_escape, meant, is_escaped, unescape}
-use Rattle.sheet.proofs.Escapes.{Field, none, byte, pair, field, plain-means, escape-means}
-
--- ---- an escape
-
--- by its second byte, with what it stands for
-data Escape : ℕ → ℕ → Type 0 where
-  of_tab : Escape 116 tab
-  of_newline : Escape 110 newline
-  of_backslash : Escape 92 backslash
-
-escape : (c : ℕ) → is_escape c ≡ true → Escape c (meant c)
-escape c e = go (eqb c 92) (eqb c 116) (eqb c 110) refl refl refl e
-  where
-    go :
-        (x y z : Bool) →
-        eqb c 92 ≡ x →
-        eqb c 116 ≡ y →
-        eqb c 110 ≡ z →
-        (x || y || z) ≡ true →
-        Escape c (cond y tab (cond z newline backslash))
-    go x true z e f g h = rw (eqb-true c 116 f) of_tab
-    go x false true e f g h = rw (eqb-true c 110 g) of_newline
-    go true false false e f g h = rw (eqb-true c 92 e) of_backslash
-    go false false false e f g h = absurd cc
+use Rattle.sheet.specs.Fields.{tab, newline, backslash, meant, is_escaped, unescape}
+use Rattle.sheet.proofs.Escapes.{Escape, of_tab, of_newline, of_backslash, known-escape, Field, none, byte, pair, field, plain-means, escape-means}
 
 -- ---- the rest of a character: ranges above ASCII
 
@@ -77,7 +54,7 @@ begins-same (r ∷ rs) e (byte b {f} q h) =
     sym (ap (begins (r ∷ rs)) (plain-means b f q))
 begins-same (r ∷ rs) e (pair c {f} q h) =
     let slash = low-not-within r rs backslash e (omega arith) in
-    let stands = low-not-within r rs (meant c) e (meant-low (escape c q)) in
+    let stands = low-not-within r rs (meant c) e (meant-low (known-escape c q)) in
     ap (λ (t : Bool). t && begins rs (c ∷ f)) slash ∙
     sym (ap (begins (r ∷ rs)) (escape-means c f) ∙ ap (λ (t : Bool). t && begins rs (unescape f)) stands)
 
@@ -165,7 +142,7 @@ octets-same zero i j (byte b {f} q h) r =
     go (suc k) e same = same k (char-rest b f k e)
 octets-same (suc skip) i j (pair c q h) (more low r) = absurd (omega arith)
 octets-same zero i j (pair c {f} q h) r =
-    go (escape c q) (octets-same 0 (i + 1 + 1) (j + 1) h done) ∙ sym (ap (λ (s : List ℕ). is_well (octets_from 0 j s)) (escape-means c f))
+    go (known-escape c q) (octets-same 0 (i + 1 + 1) (j + 1) h done) ∙ sym (ap (λ (s : List ℕ). is_well (octets_from 0 j s)) (escape-means c f))
   where
     go :
         {c m : ℕ} →
@@ -188,7 +165,7 @@ nul-first (suc b) s =
 nul-same : {f : List ℕ} → Field f → has_nul (unescape f) ≡ has_nul f
 nul-same none = unfold unescape in refl
 nul-same (byte b {f} q h) = ap has_nul (plain-means b f q) ∙ nul-first b (unescape f) ∙ ap (λ (t : Bool). eqb b 0 || t) (nul-same h) ∙ sym (nul-first b f)
-nul-same (pair c {f} q h) = ap has_nul (escape-means c f) ∙ go (escape c q) ∙ nul-same h ∙ sym (nul-first backslash (c ∷ f) ∙ other (escape c q))
+nul-same (pair c {f} q h) = ap has_nul (escape-means c f) ∙ go (known-escape c q) ∙ nul-same h ∙ sym (nul-first backslash (c ∷ f) ∙ other (known-escape c q))
   where
     go : {c m : ℕ} → Escape c m → has_nul (m ∷ unescape f) ≡ has_nul (unescape f)
     go of_tab = nul-first tab (unescape f)

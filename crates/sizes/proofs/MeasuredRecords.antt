@@ -14,6 +14,8 @@ use borrow.Author.Tests.{leb-true, le-leb, le-ltb, ltb-false, not-true}
 use lib.Dec.{leb, ltb}
 use lib.ListN.{length, length-append}
 use Rattle.std.proofs.lemmas.Bool.{false_from_ne_true, or_parts}
+use Rattle.std.specs.List.{sum}
+use Rattle.std.proofs.lemmas.List.Sums.{sum_by-cons}
 use Rattle.wire.specs.Padding.{aligned}
 use Rattle.wire.proofs.PaddingLaws.{le-aligned, aligned-of-multiple}
 use Rattle.layout.specs.Checked.{check}
@@ -26,10 +28,10 @@ use Rattle.format.specs.Encoding.{limit, encode_section, encode, countable, all_
 use Rattle.format.specs.Records.{Record, text, leading, sections, is_placed, in_order}
 use Rattle.format.specs.Sections.{Section}
 use Rattle.format.proofs.Encoding.{length-encode, limits-good, limits-found}
-use Rattle.format.proofs.Records.{begins-none, some_same}
+use Rattle.format.proofs.Records.{begins-none}
 use Rattle.format.proofs.RecordsByTag.{leading-more, leading-ends}
 use Rattle.sizes.proofs.Capped.{capped_small, small-capped}
-use Rattle.sizes.proofs.SectionSizes.{opens, adds, sum, entries_size, none-add, begins}
+use Rattle.sizes.proofs.SectionSizes.{opens, adds, entries_size, none-add, begins}
 use Rattle.sizes.specs.Measure.{capped, opened, count_limit, begin, widest, extend, advance, nothing, finish, measure_records}
 use Rattle.sizes.specs.declared.sizes.Sizes.{Sizes}
 
@@ -72,7 +74,7 @@ record Same (m after : Sizes) (r : Record) (rs : List Record) : Type 0 where
 still-narrow : (t : Tag) (size : ℕ) → (t ≡ Name → size ≤ widest) → (same_tag (Some t) (Some Name) && ltb widest size) ≡ false
 still-narrow t size h =
     elim (tag-discrete (Some t) (Some Name)) [
-      | yes q ↦ rw (same_tag_lem (Some t) (Some Name) q, le-ltb widest size (h (some_same q)))
+      | yes q ↦ rw (same_tag_lem (Some t) (Some Name) q, le-ltb widest size (h (cc)))
       | no n ↦ rw (other_tag (Some t) (Some Name) n)
     ]
 
@@ -117,8 +119,8 @@ module _ (m : Sizes) (r : Record) (rs : List Record) where
     fixed = rw own at (entry-again m.previous)
 
     entries-add : entries_size (entry_after m.previous) (r ∷ rs) ≡ adds r + entries_size (entry_tag t) rs
-    unfolding entries_size sum
-    entries-add = rw (own, fixed) (ap sum (leading-more (Some t) adds r rs refl))
+    unfolding entries_size
+    entries-add = rw (own, fixed, leading-more (Some t) adds r rs refl) (sum_by-cons (λ n. n) (adds r) (leading (Some t) adds rs))
 
     same-sections : sections (r ∷ rs) ≡ sections rs
     unfolding sections
@@ -175,7 +177,7 @@ module _ (m : Sizes) (r : Record) (rs : List Record) where
 
     -- the section before has no more entries
     ended : left m (r ∷ rs) ≡ m.current
-    unfolding entries_size sum
+    unfolding entries_size
     ended =
         let none = leading-ends (entry_after m.previous) adds r rs (λ q. section-no-entry (Some t) m.previous low q) in
         omega (arith, ap sum none)
@@ -252,7 +254,7 @@ Outcome m rs =
     (Fit m rs × (finish (measure_records m rs) ≡ Ok (total m rs))) ⊎ ((Fit m rs → ⊥) × (finish (measure_records m rs) ≡ Err WontFit))
 
 ended-outcome : (m : Sizes) → Sound m → Outcome m []
-unfolding measure_records finish check flat_map sections all_countable entries_size sum leading
+unfolding measure_records finish check flat_map sections all_countable entries_size leading
 ended-outcome m sound = go (leb m.sections count_limit && not m.wide && leb size limit) refl
   where
     size : ℕ

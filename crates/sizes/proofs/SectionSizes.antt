@@ -4,10 +4,12 @@ use Rattle.std.specs.Prelude.{Option, Some, None}
 use Prim.Native.Nat.{ℕ, ◌+◌, ◌≤◌}
 use mathlib.Core.Bool.{true}
 use mathlib.Core.List.{List, [], ◌∷◌, flat_map}
-use mathlib.Core.Path.{◌≡◌, refl, sym, ap, ap₂, ◌∙◌}
+use mathlib.Core.Path.{◌≡◌, refl, ap, ◌∙◌}
 use native.Mathlib.Omega.{arith}
 use borrow.Author.Tests.{leb-true, le-leb}
 use lib.ListN.{length, length-append}
+use Rattle.std.specs.List.{sum}
+use Rattle.std.proofs.lemmas.List.Sums.{sum_by-cons}
 use Rattle.wire.specs.Padding.{aligned}
 use Rattle.table.specs.Tags.{entry_tag, begins_section}
 use Rattle.table.specs.declared.tag.Tag.{Tag}
@@ -17,7 +19,7 @@ use Rattle.format.specs.Encoding.{content_entry, name_entry, pair_entry, stored_
 use Rattle.format.specs.Records.{Record, number, text, name_of, pair_of, leading, begun}
 use Rattle.format.specs.Sections.{Name, Section, plain, packed, names, arguments, unknown}
 use Rattle.format.proofs.Encoding.{length-content_entry, length-name_entry, length-pair_entry}
-use Rattle.format.proofs.Records.{some_same, leading-no-tag}
+use Rattle.format.proofs.Records.{leading-no-tag}
 use Rattle.format.proofs.RecordsByTag.{leading-more, leading-ends}
 use Rattle.format.proofs.SectionBytes.{length-section}
 use Rattle.sizes.specs.Measure.{opened, added, count_limit, widest}
@@ -31,10 +33,6 @@ adds r = added r.tag (length (text 0 r)) (length (text 1 r))
 
 -- ---- sums of entries
 
-unfoldable pub sum : List ℕ → ℕ
-sum [] = 0
-sum (n ∷ l) = n + sum l
-
 -- what the entries of a tag at the start of some records add
 unfoldable pub entries_size : Option Tag → List Record → ℕ
 entries_size t rs = sum (leading t adds rs)
@@ -44,24 +42,20 @@ entries-length :
     ((r : Record) → r.tag ≡ t → length (bytes (f r)) ≡ adds r) →
     (rs : List Record) →
     length (flat_map bytes (leading (Some t) f rs)) ≡ entries_size (Some t) rs
-unfolding flat_map entries_size sum
+unfolding flat_map entries_size
 entries-length t f bytes same [] = unfold leading in refl
 entries-length t f bytes same (r ∷ rs) =
     let rest = entries-length t f bytes same rs in
     elim (tag-discrete (Some r.tag) (Some t)) [
       | yes q ↦
-          ap (λ (l : List _). length (flat_map bytes l)) (leading-more (Some t) f r rs q) ∙
-          length-append (bytes (f r)) (flat_map bytes (leading (Some t) f rs)) ∙
-          ap₂ ◌+◌ (same r (some_same q)) rest ∙
-          ap sum (sym (leading-more (Some t) adds r rs q))
-      | no n ↦
-          ap (λ (l : List _). length (flat_map bytes l)) (leading-ends (Some t) f r rs n) ∙
-          ap sum (sym (leading-ends (Some t) adds r rs n))
+          rw (leading-more (Some t) f r rs q, leading-more (Some t) adds r rs q)
+          (omega (arith, rest, same r (cc), length-append (bytes (f r)) (flat_map bytes (leading (Some t) f rs)), sum_by-cons (λ n. n) (adds r) (leading (Some t) adds rs)))
+      | no n ↦ rw (leading-ends (Some t) f r rs n, leading-ends (Some t) adds r rs n)
     ]
 
 -- where no entries may stand, there are none that add anything
 pub none-add : (rs : List Record) → entries_size None rs ≡ 0
-unfolding entries_size sum
+unfolding entries_size
 none-add rs = ap sum (leading-no-tag adds rs)
 
 -- ---- a section's size, from its record and its entries

@@ -50,7 +50,7 @@ pub(crate) fn added_size(tag: Tag, first: u32, second: u32) -> usize
         Tag::Content => align(SourceInfoSectionType::CONTENT_ENTRY_HEADER_SIZE + size),
         Tag::Name => align(SourceInfoSectionType::NAME_ENTRY_HEADER_SIZE + size),
         Tag::Pair => size + TextLength(second).wire_size().0,
-        // a section's own record is no entry
+        // a section's own record is no entry, and adds nothing to the sum that this goes into
         _ => 0,
     }
 }

@@ -5,13 +5,13 @@ use native.Mathlib.Nat.{suc-mul}
 use native.Mathlib.Numerals.{add-one, towards_suc}
 use mathlib.Core.Bool.{Bool, true, false, cond}
 use mathlib.Core.Path.{◌≡◌, refl, sym, ap, ◌∙◌}
-use mathlib.Core.List.{List, [], ◌∷◌, ◌++◌, flat_map, append-nil}
+use mathlib.Core.List.{List, [], ◌∷◌, ◌++◌, map, flat_map, append-nil}
 use borrow.Author.Tests.{lt-ltb, le-ltb}
 use lib.Dec.{ltb, lit<, leb-suc-suc}
-use lib.ListN.{length, get_or, get_or-eq_default, set, drop, length-append, length-drop, drop_of_length-le}
+use lib.ListN.{length, get_or, get_or-eq_default, get_or-map, set, drop, length-append, length-drop, drop_of_length-le}
 use lib.Seq.{sets, length-sets, sets-eq, drop-cons, take-append_seam, drop-append-add, drop-drop}
 use Rattle.table.specs.declared.row.Row.{Row}
-use Rattle.table.specs.Rows.{width, row, no_row, rows_of, numbers_of, table_of, store_row}
+use Rattle.table.specs.Rows.{width, row, no_row, row_at, rows_of, numbers_of, table_of, store_row}
 use Rattle.std.specs.Simd.{first_chunks}
 use Rattle.layout.proofs.Lists.{flat_map-append}
 
@@ -42,12 +42,6 @@ length-rows_of t = go (whole t)
 -- the whole rows of a table are counted by its numbers
 pub ruleset rows_counted = (length-rows_of)
 
--- the row whose first number stands at a place
-abbrev pub row_at : List ℕ → ℕ → Row
-row_at t at =
-    row (get_or t at 0) (get_or t (at + 1) 0) (get_or t (at + 2) 0) (get_or t (at + 3) 0) (get_or t (at + 4) 0) (get_or t (at + 5) 0)
-    (get_or t (at + 6) 0)
-
 -- the row at an index is the seven numbers from seven times the index on
 pub get_or-rows_of : (t : List ℕ) (i : ℕ) → i < length t / width → get_or (rows_of t) i no_row ≡ row_at t (i * width)
 unfolding rows_of
@@ -58,22 +52,23 @@ get_or-rows_of t i h = go (whole t) i h
     go (next r w) zero l = refl
     go (next r w) (suc k) l = go w k (omega arith) ∙ simp (suc-mul, towards_suc)
 
--- the row at an index is the seven numbers of the table's chunk there
-pub chunk-row :
-    (t : List ℕ) (i : ℕ) (chunk : List ℕ) (chunks : List (List ℕ)) →
-    i < length t / width →
-    chunks ≡ first_chunks width (length t / width) t →
-    chunk ≡ get_or chunks i [] →
-    row_at chunk 0 ≡ get_or (rows_of t) i no_row
+-- the rows of a table are those of its chunks
+pub rows-chunks : (t : List ℕ) → map (λ numbers. row_at numbers 0) (first_chunks width (length t / width) t) ≡ rows_of t
 unfolding rows_of
-chunk-row t i chunk chunks h f e = rw (e, f) (go (whole t) i h)
+rows-chunks t = go (whole t)
   where
-    go : {u : List ℕ} → Whole u → (k : ℕ) → k < length u / width → row_at (get_or (first_chunks width (length u / width) u) k []) 0 ≡ get_or (rows_of u) k no_row
-    go (rest h e) k l = absurd (omega arith)
-    go (next r {t = u} w) zero l = let more : length (numbers_of r ++ u) / width ≡ suc (length u / width) = omega arith in rw more
-    go (next r {t = u} w) (suc k) l =
+    go : {u : List ℕ} → Whole u → map (λ numbers. row_at numbers 0) (first_chunks width (length u / width) u) ≡ rows_of u
+    go (rest {t = u} h e) = let none : length u / width ≡ 0 = omega arith in rw (none, e) refl
+    go (next r {t = u} w) =
         let more : length (numbers_of r ++ u) / width ≡ suc (length u / width) = omega arith in
-        rw more (go w k (omega arith))
+        rw more (ap (λ (l : List Row). r ∷ l) (go w))
+
+-- the row at an index is that of the chunk there
+pub chunk-row :
+    (t : List ℕ) (i : ℕ) (chunks : List (List ℕ)) →
+    chunks ≡ first_chunks width (length t / width) t →
+    row_at (get_or chunks i []) 0 ≡ get_or (rows_of t) i no_row
+chunk-row t i chunks f = rw (f, ← rows-chunks t) (sym (get_or-map (λ numbers. row_at numbers 0) _ i []))
 
 -- the rows from an index on: the row there, and those after it
 pub next-row : (t : List ℕ) (i : ℕ) → i < length (rows_of t) → drop i (rows_of t) ≡ get_or (rows_of t) i no_row ∷ drop (i + 1) (rows_of t)
@@ -81,8 +76,6 @@ next-row t i h = rw add-one (drop-cons (rows_of t) i no_row h)
 
 pub no-row : (t : List ℕ) (i : ℕ) → length (rows_of t) ≤ i → drop i (rows_of t) ≡ []
 no-row t i h = drop_of_length-le (rows_of t) {i = i} h
-
-pub ruleset rows_left = (next-row, no-row)
 
 -- past the last whole row there is none
 pub past-row : (t : List ℕ) (i : ℕ) → length t / width ≤ i → get_or (rows_of t) i no_row ≡ no_row

@@ -1,10 +1,8 @@
 -- Tags are told apart by their numbers.
 -- Assumes nothing.
 use Rattle.std.specs.Prelude.{Option, Some, None}
-use Prim.Native.Nat.{ℕ}
 use mathlib.Core.Bool.{Bool, true, false}
 use mathlib.Core.Path.{◌≡◌, refl, sym, ap, ◌∙◌}
-use native.Mathlib.Omega.{arith}
 use borrow.Author.Tests.{eq-eqb, ne_eqb, eqb-true}
 use denote.Enum.Bare.{sameb}
 use denote.Enum.Declared.{tag_of as variant_of}
@@ -88,5 +86,4 @@ entry-begins-none (Some Pair) = refl
 pub section-no-entry : (t previous : Option Tag) → opens_section t ≡ true → t ≡ entry_after previous → ⊥
 section-no-entry t previous b e =
     let other : opens_section t ≡ false = ap opens_section e ∙ entry-begins-none previous in
-    let z : ◌≡◌ {A = ℕ} 0 1 = cc in
-    omega arith
+    absurd cc

@@ -1,6 +1,6 @@
 -- A table as rows of seven numbers, the row of each tag by what it holds, and the spans that a row names. Only here do a row's numbers stand in a
 -- line.
-use Rattle.std.specs.Prelude.{ℕ, ◌*◌, ◌/◌, ◌%◌, Bool, eqb, cond, ltb, length, Option, Some, None}
+use Rattle.std.specs.Prelude.{ℕ, ◌+◌, ◌*◌, ◌/◌, ◌%◌, Bool, eqb, cond, ltb, length, get_or, Option, Some, None}
 use mathlib.Core.List.{List, [], ◌∷◌, flat_map}
 use Rattle.std.proofs.lemmas.List.Edits.{sets}
 use Rattle.layout.specs.Spans.{span}
@@ -22,6 +22,12 @@ row tag side a b c d e = record { tag = tag; side = side; a = a; b = b; c = c; d
 -- the row that stands for one that a table does not hold
 abbrev pub no_row : Row
 no_row = row 0 0 0 0 0 0 0
+
+-- the row whose first number stands at a place
+abbrev pub row_at : List ℕ → ℕ → Row
+row_at t at =
+    row (get_or t at 0) (get_or t (at + 1) 0) (get_or t (at + 2) 0) (get_or t (at + 3) 0) (get_or t (at + 4) 0) (get_or t (at + 5) 0)
+    (get_or t (at + 6) 0)
 
 -- the whole rows of a table; numbers past the last whole row are left out
 unfoldable pub rows_of : List ℕ → List Row

@@ -2,7 +2,7 @@
 // of a tag.
 ghost use Rattle.std.specs.Prelude.{◌≡◌, length, get_or};
 ghost use Rattle.layout.specs.Spans.{span};
-ghost use Rattle.table.specs.Rows.{rows_of, are_whole, no_row, store_row, bytes_span, text_span, value_span, plain_row, packed_row, names_row, arguments_row, unknown_row, content_row, name_row, pair_row};
+ghost use Rattle.table.specs.Rows.{row_at, rows_of, are_whole, no_row, store_row, bytes_span, text_span, value_span, plain_row, packed_row, names_row, arguments_row, unknown_row, content_row, name_row, pair_row};
 
 use crate::tag::Tag;
 use layout::Span;
@@ -38,6 +38,23 @@ impl Row {
         e: 0,
     };
 
+    // The row of its seven numbers. No `From`, which other crates would see.
+    #[inline(always)]
+    pub(crate) fn of_numbers(numbers: &[u32; Row::WIDTH]) -> Row
+        ensures { result ≡ row_at numbers.now 0 }
+    {
+        let [tag, side, a, b, c, d, e] = *numbers;
+        Row {
+            tag,
+            side,
+            a,
+            b,
+            c,
+            d,
+            e,
+        }
+    }
+
     // How many rows a table holds. Numbers past its last whole row are none.
     #[tactic(auto, using(crate::proofs::Rows::rows_counted))]
     pub fn count(table: &[u32]) -> usize
@@ -58,15 +75,7 @@ impl Row {
         ensures { result ≡ get_or (rows_of table.now) index no_row }
     {
         match table.as_chunks::<{ Row::WIDTH }>().0.get(index) {
-            Some([tag, side, a, b, c, d, e]) => Row {
-                tag: *tag,
-                side: *side,
-                a: *a,
-                b: *b,
-                c: *c,
-                d: *d,
-                e: *e,
-            },
+            Some(numbers) => Row::of_numbers(numbers),
             None => Row::ZERO,
         }
     }

@@ -1,23 +1,22 @@
 // The rows of a table, one after the other.
-ghost use Rattle.std.specs.Prelude.{◌≡◌, List, drop};
+ghost use Rattle.std.specs.Prelude.{◌≡◌, List, map};
 ghost use Rattle.std.specs.Iterator.{YieldsFirst, item_count};
-ghost use Rattle.table.specs.Rows.{rows_of};
+ghost use Rattle.table.specs.Rows.{row_at, rows_of};
 ghost use Rattle.table.specs.declared.row.Row as row;
 
 use crate::row::Row;
 use std::marker::Model;
 
-// A contract sees the list of the rows that are left.
+// The numbers of the rows that are left. A contract sees the list of those rows.
 #[derive(Drop)]
 pub struct TableRows<'a> {
-    table: &'a [u32],
-    index: usize,
+    left: &'a [[u32; Row::WIDTH]],
 }
 
 impl<'a> Model for TableRows<'a> {
     ghost Value = { List row.Row };
 
-    ghost view = { λ r. drop r.index (rows_of r.table.now) };
+    ghost view = { λ r. map (λ numbers. row_at numbers 0) r.left.now };
 }
 
 impl<'a> TableRows<'a> {
@@ -25,7 +24,9 @@ impl<'a> TableRows<'a> {
     pub fn new(table: &'a [u32]) -> TableRows<'a>
         ensures { result ≡ rows_of table.now }
     {
-        TableRows { table, index: 0 }
+        TableRows {
+            left: table.as_chunks::<{ Row::WIDTH }>().0,
+        }
     }
 }
 
@@ -36,13 +37,9 @@ impl<'a> Iterator for TableRows<'a> {
 
     ghost remaining = { item_count (λ left. left) };
 
-    #[tactic(auto, using(crate::proofs::Rows::rows_left))]
     fn next(&mut self) -> Option<Row> {
-        if Row::count(self.table) <= self.index {
-            return None;
-        }
-        let row = Row::load(self.table, self.index);
-        self.index += 1;
-        Some(row)
+        let (numbers, left) = self.left.split_first()?;
+        self.left = left;
+        Some(Row::of_numbers(numbers))
     }
 }

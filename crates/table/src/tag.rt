@@ -4,7 +4,8 @@ ghost use Rattle.table.specs.Tags.{tag_of, tag_number, entry_tag, follows, begin
 
 use layout::SourceInfoSectionType;
 
-// In the order of their numbers, from 0.
+// In the order of their numbers, from 0. Sections and entries in one type: document 01 numbers them in one list, and what a row or
+// a line may stand after is asked of both.
 #[derive(Clone, Copy, PartialEq, Eq)]
 pub enum Tag {
     // Contents that stand in the section as they are.
@@ -24,8 +25,7 @@ pub enum Tag {
 }
 
 impl Tag {
-    // No `TryFrom`: document 01 names the conversions of the section type and of the compression `from_u16` and `to_u16`, and a
-    // tag's are named like them.
+    // No `TryFrom`: no caller asks for the error that it would have.
     pub fn from_u32(value: u32) -> Option<Self>
         ensures { result ≡ tag_of value }
     {
@@ -79,7 +79,8 @@ impl Tag {
         }
     }
 
-    // How many bytes the headers of a section of this tag have; 0 of an entry.
+    // How many bytes the headers of a section of this tag have. 0 for an entry, which has none: a number and no `Option`, since
+    // sums go on with it.
     pub fn headers_size(self) -> usize
         ensures { result ≡ headers_size self }
     {

@@ -16,9 +16,9 @@ use Rattle.format.specs.Parse.{after_pair}
 use Rattle.format.specs.PublicFacts.{text_at, pairs_at}
 use Rattle.format.specs.Records.{Record, pair_record}
 use Rattle.format.specs.Walk.{places_from, pair_at}
-use Rattle.section_reader.specs.Body.{Holds}
-use Rattle.section_reader.specs.Entries.{Placed, placed, entries_from, pairs_from}
-use Rattle.section_reader.specs.declared.body.Body.TheVariants as body
+use Rattle.accepted.specs.Body.{Holds}
+use Rattle.accepted.specs.Entries.{Placed, placed, entries_from, pairs_from}
+use Rattle.accepted.specs.declared.body.Body.TheVariants as body
 use Rattle.sheet.specs.Lines.{line}
 use Rattle.sheet.specs.SheetWalk.{content_at, name_at, plain_at, packed_at, unknown_at, entries_at, contents_records, section_records}
 use Rattle.to_sheet.specs.Entry.{content_line, name_line, pair_line}

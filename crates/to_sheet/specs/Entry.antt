@@ -8,8 +8,8 @@ use Rattle.format.specs.PublicFacts.{text_at}
 use Rattle.format.specs.Records.{pair_record}
 use Rattle.sheet.specs.Lines.{line}
 use Rattle.sheet.specs.SheetWalk.{content_at, name_at, section_records}
-use Rattle.section_reader.specs.Entries.{Placed}
-use Rattle.section_reader.specs.Sections.{Found}
+use Rattle.accepted.specs.Entries.{Placed}
+use Rattle.accepted.specs.Sections.{Found}
 
 -- three and a half times a payload's limit
 abbrev pub sheet_limit : ℕ

@@ -1,15 +1,15 @@
 // The lines of entries and of pairs, stored at a place of the output. Each function answers the place after what it
-// stores. Each has a bound on that place, since the numbers of a line are passed as 32 bits; it is of what the function itself
+// stores. Each has a bound on that place, since the place of a line's number is passed as 32 bits; it is of what the function itself
 // stores, so that no type of the output's could hold it. So contents, names and pairs have a loop each: one loop over any items
 // that have a line would have to ask that bound of every run of its iterator, and each kind of item would have an impl of a law.
 ghost use mathlib.Core.List.{flat_map};
 ghost use Rattle.std.specs.Prelude.{[], ◌∷◌, ◌≡◌, ◌+◌, ◌<◌, ◌≤◌, ◌^◌, length};
 ghost use Rattle.std.proofs.lemmas.List.Edits.{sets};
 ghost use Rattle.sheet.specs.Fields.{newline};
-ghost use Rattle.section_reader.specs.Entries.{placed};
+ghost use Rattle.accepted.specs.Entries.{placed};
 ghost use Rattle.to_sheet.specs.Entry.{sheet_limit, content_line, name_line, pair_line};
 
-use section_reader::{Content, Contents, Name, Names, Pair, Pairs};
+use accepted::{Content, Contents, Name, Names, Pair, Pairs};
 
 // The end of a line.
 pub fn end_line(output: &mut [u8], end: usize) -> usize

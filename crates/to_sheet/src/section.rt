@@ -9,8 +9,8 @@ ghost use Rattle.sheet.specs.SheetWalk.{plain_at, packed_at, unknown_at, section
 ghost use Rattle.to_sheet.specs.Entry.{sheet_limit};
 
 use crate::entry::{end_line, write_contents, write_names, write_pairs};
+use accepted::{Body, CheckedSection};
 use layout::SourceInfoSectionType;
-use section_reader::{Body, CheckedSection};
 
 // The line of packed contents.
 fn write_packed(section: CheckedSection, output: &mut [u8], to: usize) -> usize

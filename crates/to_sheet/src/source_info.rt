@@ -4,8 +4,8 @@ ghost use Rattle.sheet.specs.ToSheet.{to_sheet};
 ghost use Rattle.sheet.proofs.SheetFound.{sheet-by-walk};
 
 use crate::section::write_section;
+use accepted::{Payload, Sections};
 use job::Job;
-use section_reader::{Payload, Sections};
 
 pub struct Sheet;
 

@@ -2,6 +2,7 @@
 -- Assumes nothing.
 use Rattle.std.proofs.Common.{◌≡◌, ℕ, zero, suc, ◌+◌, ◌≤◌, ◌<◌, Bool, true, false, cond, ◌&&◌, List, [], ◌∷◌, Some, None, length, take, replicate, refl, ap, arith}
 use Rattle.std.specs.List.{list_all}
+use Rattle.std.proofs.lemmas.List.{length-replicate}
 use Rattle.utf8.specs.Rfc3629.{Range, tail, within, begins}
 use Rattle.utf8.specs.Classes.{length_after, nonzero}
 use Rattle.utf8.proofs.Alternatives.{after-hit, after-miss}
@@ -22,17 +23,13 @@ enough zero s h = refl
 enough (suc n) [] h = absurd (omega arith)
 enough (suc n) (b ∷ s) h = ap (λ (t : Bool). within tail b && t) (enough n s (omega arith))
 
-count : (n : ℕ) → length (replicate n tail) ≡ n
-count zero = refl
-count (suc n) = ap suc (count n)
-
 nonzero-is : (m n : ℕ) → 0 < m → m ≡ n → Some m ≡ nonzero n
 nonzero-is zero n h e = absurd (omega arith)
 nonzero-is (suc m) n h e = ap nonzero e
 
 module _ (r : Range) (n : ℕ) where
   hit : (s : List ℕ) → begins (r ∷ replicate n tail) s ≡ true → Some (2 + n) ≡ nonzero (length_after (r ∷ replicate n tail) s)
-  hit s e = nonzero-is _ _ (omega arith) (omega (arith, after-hit _ s e, count n))
+  hit s e = nonzero-is _ _ (omega arith) (omega (arith, after-hit _ s e, length-replicate n tail))
 
   miss : (s : List ℕ) → begins (r ∷ replicate n tail) s ≡ false → None ≡ nonzero (length_after (r ∷ replicate n tail) s)
   miss s e = ap nonzero (after-miss _ s e)

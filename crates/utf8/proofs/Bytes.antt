@@ -26,7 +26,7 @@ all_low (rs ∷ rest) = low rs && all_low rest
 begins-low : (rs : List Range) → low rs ≡ true → (s : List ℕ) → begins rs s ≡ true → (k : ℕ) → k < length rs → get_or s k 0 < 256
 unfolding begins
 begins-low [] l s e k h = absurd (omega arith)
-begins-low (r ∷ rs) l [] e k h = let z : ◌≡◌ {A = ℕ} 0 1 = cc in absurd (omega arith)
+begins-low (r ∷ rs) l [] e k h = absurd cc
 begins-low (r ∷ rs) l (b ∷ s) e zero h =
     let (first, rest) = (and-eq-true_iff (within r b) (begins rs s)).0 e in
     omega (arith, within-high r b first, ltb-true r.high 256 ((and-eq-true_iff (ltb r.high 256) (low rs)).0 l).0)
@@ -70,7 +70,7 @@ octets-low zero at (b ∷ s) e h k = go (char_length (b ∷ s)) (char-low (b ∷
         elim n as (λ _. Result (Unit {0}) Utf8Error) [ zero ↦ ill_formed at | suc n ↦ octets_from n (at + 1) s ] ≡ Ok tt →
         ((n : ℕ) → octets_from n (at + 1) s ≡ Ok tt → ((k : ℕ) → k < n → get_or s k 0 < 256) → (k : ℕ) → get_or s k 0 < 256) →
         (k : ℕ) → get_or (b ∷ s) k 0 < 256
-    go zero h f rest k = let z : ◌≡◌ {A = ℕ} 0 1 = cc in absurd (omega arith)
+    go zero h f rest k = absurd cc
     go (suc n) h f rest zero = h 0 (omega arith)
     go (suc n) h f rest (suc k) = rest n f (λ j l. h (suc j) (omega arith)) k
 
@@ -82,5 +82,4 @@ well-formed-bytes s e = go (utf8_of s) refl
     go (Ok a) f = octets-low 0 0 s f (λ k l. absurd (omega arith))
     go (Err error) f =
         let no = not-well-formed s error.valid_up_to f in
-        let z : ◌≡◌ {A = ℕ} 0 1 = cc in
-        absurd (omega arith)
+        absurd cc

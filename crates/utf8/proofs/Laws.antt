@@ -1,4 +1,4 @@
--- What a caller of `utf8::validate` may want to know: that text is well formed just where it answers so, and that
+-- What a caller of `validate::validate` may want to know: that text is well formed just where it answers so, and that
 -- empty text and text of ASCII alone are.
 -- Assumes nothing.
 use Rattle.std.specs.Prelude.{Ok}

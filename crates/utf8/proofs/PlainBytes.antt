@@ -4,7 +4,6 @@ use Prim.Native.Nat.{ℕ, ◌<◌}
 use mathlib.Core.Bool.{Bool, true, false, and-eq-true_iff}
 use mathlib.Core.List.{List}
 use mathlib.Core.Path.{◌≡◌, refl}
-use native.Mathlib.Omega.{arith}
 use borrow.Author.Tests.{ltb-true}
 use lib.ListN.{length, get_or}
 use Rattle.std.proofs.lemmas.List.Folds.{list_all_at}
@@ -17,5 +16,4 @@ plain_at s e k h = go (is_plain (get_or s k 0)) refl
     go true f = let (some, low) = (and-eq-true_iff _ _).0 f in (ltb-true _ _ some, ltb-true _ _ low)
     go false f =
         let other = list_all_at is_plain s k 0 h f in
-        let z : ◌≡◌ {A = ℕ} 0 1 = cc in
-        absurd (omega arith)
+        absurd cc

@@ -59,7 +59,7 @@ passes (b ∷ u) zero at v h e = go (char_length (b ∷ u)) refl e (λ n. passes
   where
     go : (m : ℕ) → char_length (b ∷ u) ≡ m → pick m at u ≡ Ok tt → ((n : ℕ) → n ≤ length u → octets_from n (at + 1) u ≡ Ok tt → octets_from n (at + 1) (u ++ v) ≡ octets_from 0 (at + 1 + length u) v)
         → pick (char_length (b ∷ (u ++ v))) at (u ++ v) ≡ octets_from 0 (at + suc (length u)) v
-    go zero q e on = let z : ◌≡◌ {A = ℕ} 0 1 = cc in absurd (omega arith)
+    go zero q e on = absurd cc
     go (suc n) q e on =
         ap (λ (m : ℕ). pick m at (u ++ v)) (char-more b u v n q) ∙
         on n (omega (arith, char-length (b ∷ u))) e ∙

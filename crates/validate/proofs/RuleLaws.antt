@@ -61,10 +61,6 @@ module _ (p3 p2 p1 b : ℕ) where
 
 -- ---- the rule as flat comparisons
 
-pub or-false : (x y : Bool) → (x || y) ≡ false → (x ≡ false) × (y ≡ false)
-or-false true y e = absurd (true≢false e)
-or-false false y e = (refl, e)
-
 pub and-false : (x y : Bool) → (x && y) ≡ false → x ≡ true → y ≡ false
 and-false true y e q = e
 and-false false y e q = absurd (true≢false (sym q))

@@ -26,7 +26,8 @@ fn wrong(p3: u8, p2: u8, p1: u8, byte: u8) -> bool
 }
 
 // Whether a byte is wrong after the three before it. The first three have no such bytes here, and are not looked at.
-// Tried with `windows(4)`, which takes 6 to 9 % longer: each window is then shifted together from the one before.
+// By index: tried with `windows(4)`, which takes 6 to 9 % longer, since each window is then shifted together from the one before,
+// and with `array_windows`, which executes 5 % more; mixed text just meets its bar as it is (docs/BENCHMARKS.md).
 fn has_wrong(bytes: &[u8]) -> bool
     ensures { result ≡ false → (k : ℕ) → k + 3 < length bytes.now → right (slice_index bytes.now k) (slice_index bytes.now (k + 1)) (slice_index bytes.now (k + 2)) (slice_index bytes.now (k + 3)) ≡ true }
 {

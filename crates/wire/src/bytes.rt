@@ -13,8 +13,9 @@ pub fn write_bytes(output: &mut [u8], offset: usize, bytes: &[u8])
     }
 }
 
-// Copies bytes onto as many. A loop, which is compiled to `memcpy`, and not `copy_from_slice`, for which the archive would
-// need `memmove` too, here where the length is any.
+// Copies bytes onto as many. A loop, which is compiled to `memcpy`, and not `copy_from_slice`, which takes `memmove` where
+// the length is no constant: a host then has one more function to give. By index, since no contract tells what is stored through
+// an adapter of `iter_mut`.
 fn copy(to: &mut [u8], from: &[u8])
     requires { length to.old ≡ length from.now }
     ensures { to.new ≡ from.now }

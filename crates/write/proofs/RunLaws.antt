@@ -13,10 +13,11 @@ use Rattle.table.specs.Tags.{tag_of, same_tag}
 use Rattle.table.specs.declared.row.Row.{Row}
 use Rattle.table.specs.declared.tag.Tag.{Tag}
 use Rattle.table.specs.declared.tag.Tag.TheVariants as tag
+use Rattle.table.proofs.Leading.{leading-bytes}
 use Rattle.table.proofs.Tags.{tag_same, same_tag_lem}
 use Rattle.format.specs.Encoding.{content_entry, name_entry, pair_entry}
 use Rattle.format.specs.Resolve.{leading, content_of, name_of, pair_of}
-use Rattle.format.proofs.RowsByTag.{leading-more, leading-ends, leading-bytes}
+use Rattle.format.proofs.RowsByTag.{leading-more, leading-ends}
 use Rattle.write.specs.Run.{row_bytes, run_bytes}
 use Rattle.write.specs.Section.{entry_count}
 
@@ -24,16 +25,16 @@ use Rattle.write.specs.Section.{entry_count}
 
 module _ (payload edit : List ℕ) (rows : List Row) where
   pub run-contents : run_bytes payload edit tag.Content rows ≡ flat_map content_entry (leading (Some tag.Content) (content_of payload edit) rows)
-  unfolding run_bytes row_bytes
-  run-contents = leading-bytes (Some tag.Content) (content_of payload edit) (row_bytes payload edit tag.Content) content_entry (λ r q. refl) rows
+  unfolding run_bytes row_bytes leading
+  run-contents = leading-bytes _ (Some tag.Content) (content_of payload edit) (row_bytes payload edit tag.Content) content_entry (λ r q. refl) rows
 
   pub run-names : run_bytes payload edit tag.Name rows ≡ flat_map name_entry (leading (Some tag.Name) (name_of payload edit) rows)
-  unfolding run_bytes row_bytes
-  run-names = leading-bytes (Some tag.Name) (name_of payload edit) (row_bytes payload edit tag.Name) name_entry (λ r q. refl) rows
+  unfolding run_bytes row_bytes leading
+  run-names = leading-bytes _ (Some tag.Name) (name_of payload edit) (row_bytes payload edit tag.Name) name_entry (λ r q. refl) rows
 
   pub run-pairs : run_bytes payload edit tag.Pair rows ≡ flat_map pair_entry (leading (Some tag.Pair) (pair_of payload edit) rows)
-  unfolding run_bytes row_bytes
-  run-pairs = leading-bytes (Some tag.Pair) (pair_of payload edit) (row_bytes payload edit tag.Pair) pair_entry (λ r q. refl) rows
+  unfolding run_bytes row_bytes leading
+  run-pairs = leading-bytes _ (Some tag.Pair) (pair_of payload edit) (row_bytes payload edit tag.Pair) pair_entry (λ r q. refl) rows
 
 -- ---- row by row
 

@@ -5,7 +5,7 @@ use Prim.Native.Nat.{ℕ, ◌+◌, ◌-◌, ◌≤◌}
 use mathlib.Core.Bool.{true}
 use mathlib.Core.List.{List, []}
 use mathlib.Core.Logic.{◌⊎◌, inl, inr}
-use mathlib.Core.Path.{◌≡◌, refl, sym, ◌∙◌}
+use mathlib.Core.Path.{◌≡◌, refl, sym, ap, ◌∙◌}
 use native.Mathlib.Omega.{arith}
 use lib.ListN.{length, get_or, drop}
 use lib.Seq.{sets}
@@ -22,12 +22,12 @@ use Rattle.table.specs.Tags.{tag_of, entry_tag, begins_section, headers_size}
 use Rattle.table.specs.declared.row.Row.{Row}
 use Rattle.table.specs.declared.tag.Tag.{Tag}
 use Rattle.table.specs.declared.tag.Tag.TheVariants as tag
+use Rattle.table.proofs.Leading.{leading-count}
 use Rattle.layout.proofs.Lists.{flat_map-least}
 use Rattle.format.specs.Encoding.{limit, stored_bytes, body_header, kind_of, encode_section}
-use Rattle.format.specs.Resolve.{begun, content_of, name_of, pair_of}
+use Rattle.format.specs.Resolve.{leading, begun, content_of, name_of, pair_of}
 use Rattle.format.specs.Sections.{Section}
 use Rattle.format.proofs.Encoding.{length-content_entry, length-name_entry, length-pair_entry}
-use Rattle.format.proofs.RowsByTag.{leading-count}
 use Rattle.format.proofs.SectionBytes.{start, filled, length-section}
 use Rattle.frames.specs.Frame.{framed, contents_header, names_header, arguments_header}
 use Rattle.frames.proofs.Closed.{closed-size, section-closed}
@@ -185,20 +185,20 @@ module _ (source : Source) (p : Position) where
   entries t = entries_of (Some t) (drop (p.index + 1) (rows source))
 
   pub plain-headed : MayWrite source (Some tag.PlainContents) p → Headed (section source p) kind.SourceContents (λ n. contents_header begun-by.a (compression_number compression.None) n n (entries tag.PlainContents))
-  unfolding begun body_header kind_of
-  plain-headed m = rw m.writable.1 (record { kinded = refl; headed = λ n. rw (leading-count (Some tag.Content) (content_of source.sides.payload.now source.sides.edit.now) (drop (p.index + 1) (rows source))) })
+  unfolding begun leading body_header kind_of
+  plain-headed m = rw m.writable.1 (record { kinded = refl; headed = λ n. ap (contents_header _ _ n n) (leading-count _ _ _ (drop (p.index + 1) (rows source))) })
 
   pub packed-headed : MayWrite source (Some tag.PackedContents) p → Headed (section source p) kind.SourceContents (λ n. contents_header begun-by.a (compression_number compression.Zlib) n begun-by.e begun-by.d)
   unfolding begun body_header kind_of
   packed-headed m = rw m.writable.1 (record { kinded = refl; headed = λ n. refl })
 
   pub names-headed : MayWrite source (Some tag.Names) p → Headed (section source p) kind.SourceNames (λ n. names_header n (entries tag.Names))
-  unfolding begun body_header kind_of
-  names-headed m = rw m.writable.1 (record { kinded = refl; headed = λ n. rw (leading-count (Some tag.Name) (name_of source.sides.payload.now source.sides.edit.now) (drop (p.index + 1) (rows source))) })
+  unfolding begun leading body_header kind_of
+  names-headed m = rw m.writable.1 (record { kinded = refl; headed = λ n. ap (names_header n) (leading-count _ _ _ (drop (p.index + 1) (rows source))) })
 
   pub arguments-headed : MayWrite source (Some tag.Arguments) p → Headed (section source p) kind.Arguments (λ n. arguments_header n (entries tag.Arguments))
-  unfolding begun body_header kind_of
-  arguments-headed m = rw m.writable.1 (record { kinded = refl; headed = λ n. rw (leading-count (Some tag.Pair) (pair_of source.sides.payload.now source.sides.edit.now) (drop (p.index + 1) (rows source))) })
+  unfolding begun leading body_header kind_of
+  arguments-headed m = rw m.writable.1 (record { kinded = refl; headed = λ n. ap (arguments_header n) (leading-count _ _ _ (drop (p.index + 1) (rows source))) })
 
   pub unknown-headed : MayWrite source (Some tag.Unknown) p → Headed (section source p) (kind.Unknown begun-by.a) (λ n. [])
   unfolding begun body_header kind_of

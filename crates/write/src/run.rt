@@ -36,8 +36,8 @@ fn is_of(row: Row, tag: Tag) -> bool
 }
 
 // Stores the entries that the rows of a tag are, from an index on, at a place and on. Answers the position after them. By
-// index, which the position that is answered holds: crate table's iterator begins at the first row alone, and of one that
-// began at `first` an `enumerate` would count from 0 again.
+// index, which the position that is answered holds: crate table's iterator begins at the first row, and `skip` would go over
+// all rows before `first` again for each section.
 #[tactic(auto, using(crate::proofs::RunLaws::run_steps))]
 pub fn write_run(
     source: &Source,

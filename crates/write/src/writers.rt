@@ -1,5 +1,7 @@
 // The section writers. Each is lent the one output position, stores the section that the position's row begins, and moves the
-// position on past it. One for each kind, as document 01 has it; what they share is `store_body`.
+// position on past it. One for each kind, as document 01 has it; what they share is `store_body`. Source, output and position
+// are passed apart: the position is lent alone, as document 01 has it, and what is known of it is of its row's tag, and no longer
+// holds once it has moved on.
 ghost use Rattle.std.specs.Prelude.{◌≡◌, Some};
 ghost use Rattle.std.proofs.lemmas.List.Edits.{sets};
 ghost use Rattle.table.specs.declared.tag.Tag.TheVariants as tag;

@@ -1,21 +1,19 @@
 -- `measure` meets its contract: at each line, what is left to measure is a line that is not closed, a refusal, or the line's sizes and the rest.
 use Rattle.std.proofs.Common.{◌≡◌, sym, ap, ◌∙◌, ◌+◌, arith}
-use Rattle.std.specs.Prelude.{None}
 use Rattle.std.specs.Result.{result_ok}
 use Rattle.std.proofs.lemmas.Result.{err_from_is_err_and}
+use Rattle.layout.proofs.Checked.{refused-by}
 use Rattle.sizes.specs.Measure.{advance}
 use Rattle.line_reader.specs.declared.line.LineSizes.{LineSizes}
 use Rattle.lines.proofs.Measured.{counted, sheet-measured}
-use Rattle.lines.proofs.Turns.{unclosed, refused, read, ended, same-refusal, told-refused, told_line}
+use Rattle.lines.proofs.Turns.{unclosed, refused, read, ended, told-refused, told_line}
 use Rattle.lines.proofs.measure.Goals as goal
 
 pub returns-in_err-line : goal.returns-in_err-line
 returns-in_err-line c =
     let p = err_from_is_err_and c.from_residual.result c.from_residual.ensures.1 in
     let (n, number, same) = c.loop-rest.invariant in
-    let none : c.split_line.result ≡ None = c.ok_or.ensures.ok_part ∙ ap result_ok c.in_err-line.was in
-    let told = rw none at c.ok_or.ensures.value in
-    let refusal = same-refusal (sym c.in_err-line.was ∙ told) in
+    let (none, refusal) = refused-by _ c.ok_or.ensures.value c.in_err-line.was in
     let fault = unclosed c.loop-rest.rest.now n c.loop-rest.sizes (sym c.is_empty.ensures ∙ c.loop-rest-test.true) (rw none at c.split_line.ensures) in
     rw (p.1, p.2, refusal, number) (sym fault ∙ same ∙ sheet-measured c.args.sheet.now)
 

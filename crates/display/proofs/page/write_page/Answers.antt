@@ -2,10 +2,10 @@
 use Rattle.std.proofs.Common.{length, ap, ◌∙◌, rules, tests}
 use Rattle.std.proofs.lemmas.Iterator.Consumers.{YieldsList-from_filter_map, YieldsList-from_first}
 use Rattle.std.proofs.lemmas.List.Edits.{sets}
-use Rattle.section_reader.specs.Sections.{sections}
+use Rattle.accepted.specs.Sections.{sections}
 use Rattle.display.specs.Summary.{page_of}
 use Rattle.display.proofs.LineLaws.{page-counted}
-use Rattle.display.proofs.Numbered.{all-items}
+use Rattle.accepted.proofs.Given.{all-items}
 use Rattle.display.proofs.page.write_page.Goals as goal
 
 pub returns : goal.returns

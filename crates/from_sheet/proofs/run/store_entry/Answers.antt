@@ -1,6 +1,5 @@
 -- `store_entry` meets its contract: by its tag a record is a content, a name, a pair or nothing.
-use Rattle.std.proofs.Common.{refl, sym, ap, length, arith}
-use Rattle.from_sheet.specs.Run.{entry_bytes}
+use Rattle.std.proofs.Common.{sym, ap, length, arith}
 use Rattle.from_sheet.proofs.Said.{content-is, name-is, pair_is}
 use Rattle.from_sheet.proofs.run.store_entry.Goals as goal
 
@@ -21,23 +20,3 @@ returns-in-Name c = rw (name-is c.args.record.now _ (sym c.in-Name.ensures) c.fi
 
 pub returns-in-Pair : goal.returns-in-Pair
 returns-in-Pair c = rw (pair_is c.args.record.now _ _ (sym c.in-Pair.ensures) c.field-in-Pair.ensures.value c.field-in-Pair-2.ensures.value) c.store_pair.ensures
-
-pub returns-in-PlainContents : goal.returns-in-PlainContents
-unfolding entry_bytes
-returns-in-PlainContents c = rw (← c.in-PlainContents.ensures) (record { value = omega arith; output_after = refl })
-
-pub returns-in-PackedContents : goal.returns-in-PackedContents
-unfolding entry_bytes
-returns-in-PackedContents c = rw (← c.in-PackedContents.ensures) (record { value = omega arith; output_after = refl })
-
-pub returns-in-Names : goal.returns-in-Names
-unfolding entry_bytes
-returns-in-Names c = rw (← c.in-Names.ensures) (record { value = omega arith; output_after = refl })
-
-pub returns-in-Arguments : goal.returns-in-Arguments
-unfolding entry_bytes
-returns-in-Arguments c = rw (← c.in-Arguments.ensures) (record { value = omega arith; output_after = refl })
-
-pub returns-in-Unknown : goal.returns-in-Unknown
-unfolding entry_bytes
-returns-in-Unknown c = rw (← c.in-Unknown.ensures) (record { value = omega arith; output_after = refl })

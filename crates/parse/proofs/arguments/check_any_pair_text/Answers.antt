@@ -1,6 +1,6 @@
 -- `check_any_pair_text` meets its contract: the place of the first NUL of the run decides the first test, and the answer of `validate` the second.
 use Rattle.std.proofs.Common.{◌≡◌, ℕ, ◌+◌, ◌-◌, ◌<◌, ◌≤◌, List, length, ◌∙◌, ap, sym, arith}
-use Rattle.std.specs.Prelude.{Ok, Err, Some, None}
+use Rattle.std.specs.Prelude.{Ok, Some}
 use Rattle.std.specs.Result.{result_ok}
 use Rattle.std.proofs.lemmas.Result.{err_from_is_err_and}
 use Rattle.find.specs.Nul.{until_nul, first_nul}
@@ -8,9 +8,9 @@ use Rattle.find.proofs.NulLaws.{nul-place, no-nul}
 use Rattle.utf8.specs.Rfc3629.{utf8_of}
 use Rattle.utf8.proofs.Laws.{well-formed, not-well-formed}
 use Rattle.layout.specs.Spans.{part}
+use Rattle.layout.proofs.Checked.{refused-by}
 use Rattle.format.proofs.PairLaws.{run, length_run, text-open, text-ill-formed, text-well-formed}
 use Rattle.parse.specs.Outcome.{maybe_text}
-use Rattle.parse.proofs.Refused.{refused-by}
 use Rattle.parse.proofs.arguments.check_any_pair_text.Goals as goal
 
 -- a NUL that was found is the first of the run, and lies in it
@@ -32,9 +32,8 @@ slice_bounds-validate-end c = omega (arith, found _ _ _ _ (c.requires, c.args.pa
 pub returns-in_err-count : goal.returns-in_err-count
 returns-in_err-count c =
     let p = err_from_is_err_and c.from_residual.result c.from_residual.ensures.1 in
-    let none : c.find_nul.result ≡ None = c.ok_or.ensures.ok_part ∙ ap result_ok c.in_err-count.was in
-    p.1 ∙ ap Err p.2 ∙ ap Err (refused-by _ _ _ _ c.ok_or.ensures.value c.in_err-count.was none) ∙
-    sym (ap maybe_text (text-open _ _ _ (no-nul _ (sym none ∙ c.find_nul.ensures))))
+    let (none, refusal) = refused-by _ c.ok_or.ensures.value c.in_err-count.was in
+    rw (p.1, p.2, refusal) (sym (ap maybe_text (text-open _ _ _ (no-nul _ (sym none ∙ c.find_nul.ensures)))))
 
 -- what stands before the NUL is what `validate` is shown
 shown : (p : List ℕ) (at end n : ℕ) → n ≡ until_nul (run p at end) → utf8_of (part p at (at + n - at)) ≡ utf8_of (part p at (until_nul (run p at end)))

@@ -1,4 +1,4 @@
--- `check_pair` meets its contract: a name ends before `end`, so that the value is looked for before it too.
+-- `check_pair` meets its contract: a name ends before `part.end`, so that the value is looked for before it too.
 use Rattle.std.proofs.Common.{◌≡◌, ℕ, sym, ap, arith}
 use Rattle.format.proofs.PairLaws.{pair_text-good}
 use Rattle.layout.proofs.Checked.{taking-ok}

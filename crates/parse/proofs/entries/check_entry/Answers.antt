@@ -10,21 +10,19 @@ use Rattle.wire.specs.Number.{u32_at}
 use Rattle.wire.specs.Padding.{padding, aligned}
 use Rattle.wire.proofs.LengthLaws.{wire_size-terminated, no_text}
 use Rattle.wire.proofs.PaddingLaws.{le-aligned}
-use Rattle.layout.proofs.Checked.{after-fault, after-good}
+use Rattle.layout.proofs.Checked.{after-fault, after-good, refused-by}
 use Rattle.layout.specs.Checked.{check, then}
 use Rattle.format.specs.Parse.{terminated_text, entry}
 use Rattle.parse.specs.Outcome.{place_of}
-use Rattle.parse.proofs.Refused.{refused-by}
 use Rattle.parse.proofs.entries.check_entry.Goals as goal
 
 pub returns-in_err-text : goal.returns-in_err-text
 unfolding entry check
 returns-in_err-text c =
-    let none : c.read_u32-size.result ≡ 0 = no_text c.read_u32-size.result (omega arith) (sym c.text_length.ensures ∙ c.ok_or.ensures.ok_part ∙ ap result_ok c.in_err-text.was) in
     let p = err_from_is_err_and c.from_residual.result c.from_residual.ensures.1 in
-    let no-text = c.ok_or.ensures.ok_part ∙ ap result_ok c.in_err-text.was in
-    let refused = refused-by _ _ _ _ c.ok_or.ensures.value c.in_err-text.was no-text in
-    p.1 ∙ ap Err p.2 ∙ ap Err refused ∙
+    let (no-text, refusal) = refused-by _ c.ok_or.ensures.value c.in_err-text.was in
+    let none : c.read_u32-size.result ≡ 0 = no_text c.read_u32-size.result (omega arith) (sym c.text_length.ensures ∙ no-text) in
+    p.1 ∙ ap Err (p.2 ∙ refusal) ∙
     rw (← c.header_size-header.ensures.value, ← c.read_u32.ensures, ← c.read_u32-size.ensures, le-leb (c.args.at + c.header_size-header.result) c.args.part.end (omega arith), eq-eqb _ 0 c.if-read_u32-ne0.false, none)
 
 -- the size counts the text and its terminator

@@ -8,10 +8,10 @@ use Rattle.wire.specs.Number.{u16_at, u32_at}
 use Rattle.format.specs.Parse.{entries, name_row_at, parse_section}
 use Rattle.format.proofs.SectionLaws.{names-good}
 use Rattle.format.proofs.Stands.{length_part}
-use Rattle.section_reader.specs.Body.{Holds}
-use Rattle.section_reader.specs.declared.body.Body.{Body}
-use Rattle.section_reader.specs.declared.body.Body.TheVariants as body
-use Rattle.section_reader.specs.declared.entries.Entries.{Entries}
+use Rattle.accepted.specs.Body.{Holds}
+use Rattle.accepted.specs.declared.body.Body.{Body}
+use Rattle.accepted.specs.declared.body.Body.TheVariants as body
+use Rattle.accepted.specs.declared.entries.Entries.{Entries}
 use Rattle.public_copy.specs.Hidden.{hidden}
 use Rattle.public_copy.proofs.CopyLaws.{contents-left, names-left, arguments-left, unknown-left}
 use Rattle.public_copy.proofs.NamesLaws.{section-long, section-span, section-hidden}

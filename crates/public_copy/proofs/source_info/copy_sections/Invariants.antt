@@ -1,6 +1,6 @@
 -- The loop of `copy_sections`: what is left of the sections that are left is to store.
 use Rattle.format.proofs.Storing.{LeftOf}
-use Rattle.section_reader.specs.Sections.{sections}
+use Rattle.accepted.specs.Sections.{sections}
 use Rattle.public_copy.specs.Joined.{copied}
 use Rattle.public_copy.proofs.source_info.copy_sections.Given as goal
 

@@ -11,8 +11,8 @@ use Rattle.format.proofs.SectionLaws.{parse-good}
 use Rattle.format.proofs.WalkLaws.{parse-walk}
 use Rattle.read.specs.Store.{rows_of, store_rows}
 use Rattle.read.proofs.Stored.{store_rows-append}
-use Rattle.section_reader.proofs.Accepted.{taken-walked}
-use Rattle.section_reader.specs.Sections.{sections}
+use Rattle.accepted.proofs.Accepted.{taken-walked}
+use Rattle.accepted.specs.Sections.{sections}
 use Rattle.read.proofs.fill.fill_srci.Goals as goal
 
 -- the rows of all sections are those of the walk, and fewer than the limit

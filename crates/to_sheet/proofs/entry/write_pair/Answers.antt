@@ -6,7 +6,7 @@ use Rattle.layout.specs.Spans.{part}
 use Rattle.format.specs.Display.{ascii}
 use Rattle.sheet.specs.Fields.{escape}
 use Rattle.sheet.specs.Lines.{line}
-use Rattle.section_reader.specs.Entries.{placed}
+use Rattle.accepted.specs.Entries.{placed}
 use Rattle.to_sheet.specs.Entry.{sheet_limit, pair_line}
 use Rattle.to_sheet.proofs.LineParts.{Stored, first-stored, then-stored, as-line, field, end, two_fields}
 use Rattle.to_sheet.proofs.entry.write_pair.Goals as goal

@@ -4,7 +4,6 @@ use Rattle.std.specs.Prelude.{Option, Some, None, MatchOption}
 use Rattle.table.specs.Tags.{same_tag}
 use Rattle.table.specs.declared.tag.Tag.{Tag}
 use Rattle.table.proofs.Tags.{tag_same, same_tags}
-use Rattle.format.proofs.Records.{some_same}
 use Rattle.format.specs.Records.{Record}
 use Rattle.from_sheet.specs.Records.{ahead_of, records_in}
 use Rattle.from_sheet.specs.Run.{run}
@@ -41,5 +40,5 @@ returns c =
     let rest = records_in c.self.inside.rest.now in
     let is = sym c.self.view_is ∙ sym (ap (λ (r : Option Record). ahead_of r rest) c.in_ok-as_ref.ensures.value) in
     let same : same_tag (Some c.tag.result) (Some c.args.tag) ≡ true = search (rules, same_tags) in
-    let own = sym c.tag.ensures ∙ some_same (tag_same _ _ same) in
+    let own : _ ≡ c.args.tag = cc (c.tag.ensures, tag_same _ _ same) in
     first c.args.tag _ rest c.args.self.now c.next.new.self c.next.result is own c.next.ensures.steps

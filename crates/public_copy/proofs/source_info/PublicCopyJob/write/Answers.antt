@@ -6,7 +6,7 @@ use Rattle.format.specs.CopyWalk.{copy_at, copy_of, copy}
 use Rattle.format.specs.Parse.{kind_at}
 use Rattle.format.specs.Walk.{places_from, places}
 use Rattle.frames.proofs.PayloadClosed.{header-stored}
-use Rattle.section_reader.proofs.Accepted.{known-many}
+use Rattle.accepted.proofs.Accepted.{known-many}
 use Rattle.public_copy.specs.Joined.{joined}
 use Rattle.public_copy.proofs.CopyLaws.{copy-known, copy-long, copied-all}
 use Rattle.public_copy.proofs.source_info.PublicCopyJob.write.Goals as goal

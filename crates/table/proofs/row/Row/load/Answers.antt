@@ -5,8 +5,8 @@ use Rattle.table.proofs.row.Row.load.Goals as goal
 
 pub returns-in-Some : goal.returns-in-Some
 returns-in-Some c =
-    let there = c.in-Some.ensures.lookup.3 in
-    chunk-row c.args.table.now c.args.index _ _ (omega (arith, there.0, c.as_chunks.ensures.front_len)) c.as_chunks.ensures.front (there.1 [])
+    rw (c.of_numbers.ensures, c.in-Some.ensures.lookup.3.1 [])
+    (chunk-row c.args.table.now c.args.index _ c.as_chunks.ensures.front)
 
 pub returns-in-None : goal.returns-in-None
 returns-in-None c =

@@ -9,8 +9,8 @@ use Rattle.format.specs.Walk.{places}
 use Rattle.format.specs.WellFormed.{Bytes}
 use Rattle.format.proofs.SectionLaws.{parse-good}
 use Rattle.format.proofs.Storing.{none-stored, item-within, item-stored, all-stored}
-use Rattle.section_reader.proofs.Accepted.{made-walked}
-use Rattle.section_reader.specs.Sections.{sections}
+use Rattle.accepted.proofs.Accepted.{made-walked}
+use Rattle.accepted.specs.Sections.{sections}
 use Rattle.sheet.specs.Lines.{line}
 use Rattle.sheet.specs.SheetWalk.{section_records, sheet_lines}
 use Rattle.sheet.proofs.SheetFound.{sheet-by-walk}

@@ -1,6 +1,6 @@
 -- The loop of `write`: the lines of the sections that are left are to store.
 use Rattle.format.proofs.Storing.{LeftOf}
-use Rattle.section_reader.specs.Sections.{sections}
+use Rattle.accepted.specs.Sections.{sections}
 use Rattle.to_sheet.specs.Entry.{lines_of}
 use Rattle.to_sheet.proofs.source_info.SheetJob.write.Given as goal
 

@@ -1,0 +1,4 @@
+pub mod Accepted
+pub mod Walked
+pub mod Entered
+pub mod Given
