@@ -19,13 +19,7 @@ pub struct CheckedSection<'a> {
     pub ghost good: { is_ok (parse_section kind payload.now at (u32_at payload.now at)) ≡ true },
 }
 
-// Where a section of its kind has each number, from the section's start on.
-const NAME_COUNT: usize = 12;
-
-const PAIR_COUNT: usize = 16;
-
-const CONTENT_COUNT: usize = 24;
-
+// Where a section has each number, from its start on. Of contents:
 const HEADER_FIELD: usize = 8;
 
 const COMPRESSION: usize = 14;
@@ -33,6 +27,14 @@ const COMPRESSION: usize = 14;
 const STORED_SIZE: usize = 16;
 
 const UNCOMPRESSED_SIZE: usize = 20;
+
+const CONTENT_COUNT: usize = 24;
+
+// Of names:
+const NAME_COUNT: usize = 12;
+
+// Of arguments:
+const PAIR_COUNT: usize = 16;
 
 // A method for each number, under its name: one for all would be given the number's place at each call.
 impl<'a> CheckedSection<'a> {

@@ -9,8 +9,8 @@ ghost use Rattle.find.specs.Find.{until, is_any};
 const BLOCK: usize = 16;
 
 // How many bytes stand before the first that is sought; all of them where there is none. A number, and no `Option`: callers want
-// where a run ends, whatever ends it. A line's parts are stored by their ends; whether a newline or a NUL was there `split_line` and
-// `find_nul` ask by the length. Inlined, since most searches are short.
+// where a run ends, whatever ends it. A line's parts are stored by their ends; `split_line` and `find_nul` tell by the length
+// whether there was one. Inlined, since most searches are short.
 #[inline(always)]
 pub fn find_any<const N: usize>(bytes: &[u8], sought: &[u8; N]) -> usize
     ensures { result ≡ until (is_any sought.now) bytes.now }

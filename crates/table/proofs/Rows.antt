@@ -11,7 +11,7 @@ use lib.Dec.{ltb, lit<, leb-suc-suc}
 use lib.ListN.{length, get_or, get_or-eq_default, get_or-map, set, drop, length-append, length-drop, drop_of_length-le}
 use lib.Seq.{sets, length-sets, sets-eq, drop-cons, take-append_seam, drop-append-add, drop-drop}
 use Rattle.table.specs.declared.row.Row.{Row}
-use Rattle.table.specs.Rows.{width, row, no_row, row_at, rows_of, numbers_of, table_of, store_row}
+use Rattle.table.specs.Rows.{width, row, no_row, row_at, row_of, rows_of, numbers_of, table_of, store_row}
 use Rattle.std.specs.Simd.{first_chunks}
 use Rattle.layout.proofs.Lists.{flat_map-append}
 
@@ -53,11 +53,11 @@ get_or-rows_of t i h = go (whole t) i h
     go (next r w) (suc k) l = go w k (omega arith) ∙ simp (suc-mul, towards_suc)
 
 -- the rows of a table are those of its chunks
-pub rows-chunks : (t : List ℕ) → map (λ numbers. row_at numbers 0) (first_chunks width (length t / width) t) ≡ rows_of t
+pub rows-chunks : (t : List ℕ) → map row_of (first_chunks width (length t / width) t) ≡ rows_of t
 unfolding rows_of
 rows-chunks t = go (whole t)
   where
-    go : {u : List ℕ} → Whole u → map (λ numbers. row_at numbers 0) (first_chunks width (length u / width) u) ≡ rows_of u
+    go : {u : List ℕ} → Whole u → map row_of (first_chunks width (length u / width) u) ≡ rows_of u
     go (rest {t = u} h e) = let none : length u / width ≡ 0 = omega arith in rw (none, e) refl
     go (next r {t = u} w) =
         let more : length (numbers_of r ++ u) / width ≡ suc (length u / width) = omega arith in
@@ -67,8 +67,8 @@ rows-chunks t = go (whole t)
 pub chunk-row :
     (t : List ℕ) (i : ℕ) (chunks : List (List ℕ)) →
     chunks ≡ first_chunks width (length t / width) t →
-    row_at (get_or chunks i []) 0 ≡ get_or (rows_of t) i no_row
-chunk-row t i chunks f = rw (f, ← rows-chunks t) (sym (get_or-map (λ numbers. row_at numbers 0) _ i []))
+    row_of (get_or chunks i []) ≡ get_or (rows_of t) i no_row
+chunk-row t i chunks f = rw (f, ← rows-chunks t) (sym (get_or-map row_of _ i []))
 
 -- the rows from an index on: the row there, and those after it
 pub next-row : (t : List ℕ) (i : ℕ) → i < length (rows_of t) → drop i (rows_of t) ≡ get_or (rows_of t) i no_row ∷ drop (i + 1) (rows_of t)

@@ -29,6 +29,10 @@ row_at t at =
     row (get_or t at 0) (get_or t (at + 1) 0) (get_or t (at + 2) 0) (get_or t (at + 3) 0) (get_or t (at + 4) 0) (get_or t (at + 5) 0)
     (get_or t (at + 6) 0)
 
+-- the row of its seven numbers
+abbrev pub row_of : List ℕ → Row
+row_of numbers = row_at numbers 0
+
 -- the whole rows of a table; numbers past the last whole row are left out
 unfoldable pub rows_of : List ℕ → List Row
 rows_of [] = []

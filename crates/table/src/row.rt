@@ -1,8 +1,8 @@
-// A row of a table: seven numbers. No other file knows how many they are or where each stands in a table, or makes the row
-// of a tag.
+// A row of a table: seven numbers. Only here is it said how many they are, by `WIDTH`, and which of them is which; and only here is
+// the row of a tag made.
 ghost use Rattle.std.specs.Prelude.{◌≡◌, length, get_or};
 ghost use Rattle.layout.specs.Spans.{span};
-ghost use Rattle.table.specs.Rows.{row_at, rows_of, are_whole, no_row, store_row, bytes_span, text_span, value_span, plain_row, packed_row, names_row, arguments_row, unknown_row, content_row, name_row, pair_row};
+ghost use Rattle.table.specs.Rows.{row_of, rows_of, are_whole, no_row, store_row, bytes_span, text_span, value_span, plain_row, packed_row, names_row, arguments_row, unknown_row, content_row, name_row, pair_row};
 
 use crate::tag::Tag;
 use layout::Span;
@@ -41,7 +41,7 @@ impl Row {
     // The row of its seven numbers. No `From`, which other crates would see.
     #[inline(always)]
     pub(crate) fn of_numbers(numbers: &[u32; Row::WIDTH]) -> Row
-        ensures { result ≡ row_at numbers.now 0 }
+        ensures { result ≡ row_of numbers.now }
     {
         let [tag, side, a, b, c, d, e] = *numbers;
         Row {

@@ -1,7 +1,7 @@
 // The rows of a table, one after the other.
 ghost use Rattle.std.specs.Prelude.{◌≡◌, List, map};
 ghost use Rattle.std.specs.Iterator.{YieldsFirst, item_count};
-ghost use Rattle.table.specs.Rows.{row_at, rows_of};
+ghost use Rattle.table.specs.Rows.{row_of, rows_of};
 ghost use Rattle.table.specs.declared.row.Row as row;
 
 use crate::row::Row;
@@ -16,7 +16,7 @@ pub struct TableRows<'a> {
 impl<'a> Model for TableRows<'a> {
     ghost Value = { List row.Row };
 
-    ghost view = { λ r. map (λ numbers. row_at numbers 0) r.left.now };
+    ghost view = { λ r. map row_of r.left.now };
 }
 
 impl<'a> TableRows<'a> {
