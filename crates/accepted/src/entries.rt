@@ -8,7 +8,7 @@ ghost use Rattle.accepted.specs.Entries.{Placed, placed, entries_from, EntriesGo
 
 use layout::SourceInfoSectionType;
 use std::marker::Model;
-use wire::TextLength;
+use wire::{TextLength, WireSize};
 
 // An entry, with what is known of it. Of its payload the limit alone is known, which is all that its sums need; so too of a section and
 // of a pair, and in the first pass of a part (crate parse). With a `Payload` in its place, each sum would take the limit from what
@@ -40,10 +40,12 @@ impl<'a, const HEADER: usize> Entry<'a, HEADER> {
     }
 
     // The length of its text.
+    #[tactic(auto, using(wire::proofs::LengthLaws::text_lengths))]
     pub fn text_length(self) -> TextLength
         ensures { result.0 ≡ u32_at self.entry.payload.now (self.entry.at + 8) - 1 }
     {
-        TextLength(wire::read_u32(self.payload, self.at + 8) - 1)
+        let size = WireSize(wire::read_u32(self.payload, self.at + 8) as usize);
+        size.text_length().unwrap_or(TextLength(0))
     }
 
     // Of a name, the size of its content.

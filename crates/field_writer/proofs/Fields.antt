@@ -1,15 +1,19 @@
 -- What the field writers use: the letter of a byte that is escaped, and a run of bytes that stand for themselves.
 -- Assumes nothing.
-use Prim.Native.Nat.{ℕ, ◌+◌, ◌≤◌, ◌<◌}
+use Prim.Native.Nat.{ℕ, ◌+◌, ◌*◌, ◌≤◌, ◌<◌}
 use mathlib.Core.Bool.{Bool, true, false, cond, ◌||◌}
 use mathlib.Core.List.{List, [], ◌∷◌, ◌++◌, flat_map}
-use mathlib.Core.Path.{◌≡◌, refl, ap₂}
-use native.Mathlib.Numerals.{add-one}
+use mathlib.Core.Path.{◌≡◌, refl, sym, ap, ap₂, ◌∙◌}
 use native.Mathlib.Omega.{arith}
 use borrow.Author.Tests.{eqb-true}
 use lib.Dec.{eqb}
-use lib.ListN.{length, get_or, take, drop, drop_of_length-le}
-use lib.Seq.{drop-cons}
+use lib.ListN.{length, get_or, take, drop, length-append, take-append-drop}
+use lib.Seq.{sets, length-take-le}
+use borrow.Rule.Slice.PartMut.{put_mid}
+use Rattle.std.proofs.lemmas.List.{take_more}
+use Rattle.layout.proofs.Lists.{flat_map-append}
+use Rattle.wire.proofs.Sets.{sets-joined, sets-whole, sets-within}
+use Rattle.sheet.proofs.SheetSize.{length-hex_pairs}
 use Rattle.find.specs.Find.{until, is_any}
 use Rattle.find.proofs.Rest.{from, from-is}
 use Rattle.find.proofs.FindLaws.{until-found, until-more, until-least, until-step}
@@ -83,15 +87,42 @@ escape-run (b ∷ s) = go (is_any sought b) refl (escape-run s)
         rw (until-more (is_any sought) b s e)
         (ap₂ (λ (x y : List ℕ). x ++ y) (itself b e) h)
 
--- ---- from a place on
+-- ---- pairs of digits
 
-pub pairs_next : (s : List ℕ) (i : ℕ) → i < length s → hex_pairs (drop i s) ≡ hex_pair (get_or s i 0) ++ hex_pairs (drop (i + 1) s)
+-- those of one byte more
+pub pairs-more : (bytes : List ℕ) (i : ℕ) → i < length bytes → hex_pairs (take (i + 1) bytes) ≡ hex_pairs (take i bytes) ++ hex_pair (get_or bytes i 0)
 unfolding hex_pairs flat_map
-pairs_next s i h = rw (add-one, drop-cons s i 0 h)
+pairs-more bytes i h = rw (take_more bytes i 0 h) (flat_map-append hex_pair (take i bytes) (get_or bytes i 0 ∷ []))
 
-pub pairs_end_lem : (s : List ℕ) (i : ℕ) → length s ≤ i → hex_pairs (drop i s) ≡ []
-unfolding hex_pairs flat_map
-pairs_end_lem s i h = rw (drop_of_length-le s h)
+-- those of the first bytes, in a part of their length
+pub pairs-fit :
+    (bytes to output : List ℕ) (at w k : ℕ) →
+    to ≡ hex_pairs (take w bytes) →
+    w ≤ length bytes →
+    k ≡ 2 * w →
+    at + k ≤ length output →
+    put_mid at k output to ≡ sets output at (hex_pairs (take w bytes))
+pairs-fit bytes to output at w k e h same room =
+    let long : length (hex_pairs (take w bytes)) ≡ 2 * w = omega (arith, length-hex_pairs (take w bytes), length-take-le w bytes h) in
+    sets-whole to (hex_pairs (take w bytes)) output at k e (omega arith) room
+
+-- and the pair that the output ends within, after which nothing is stored
+pub pairs-cut :
+    (bytes l output : List ℕ) (at w : ℕ) →
+    w < length bytes →
+    length output < at + 2 * w + 2 →
+    l ≡ sets output at (hex_pairs (take w bytes)) →
+    sets l (at + 2 * w) (hex_pair (get_or bytes w 0)) ≡ sets output at (hex_pairs bytes)
+unfolding hex_pairs
+pairs-cut bytes l output at w h end e =
+    let first : List ℕ = hex_pairs (take w bytes) in
+    let pair : List ℕ = hex_pair (get_or bytes w 0) in
+    let others : List ℕ = hex_pairs (drop (w + 1) bytes) in
+    let long : length first ≡ 2 * w = omega (arith, length-hex_pairs (take w bytes), length-take-le w bytes (omega arith)) in
+    let whole : (first ++ pair) ++ others ≡ hex_pairs bytes =
+    ap (λ (s : List ℕ). s ++ others) (sym (pairs-more bytes w h)) ∙ sym (flat_map-append hex_pair (take (w + 1) bytes) (drop (w + 1) bytes)) ∙ ap hex_pairs (take-append-drop (w + 1) bytes) in
+    let room : length output ≤ at + length (first ++ pair) = omega (arith, length-append first pair, long) in
+    rw (e, ← whole) (sets-joined first pair output at (at + 2 * w) (omega (arith, long)) ∙ sym (sets-within (first ++ pair) others output at room))
 
 -- ---- the rest of a text
 

@@ -15,7 +15,7 @@ use Rattle.layout.specs.declared.section_type.SourceInfoSectionType.TheVariants.
 use Rattle.table.specs.Rows.{plain_row, names_row, arguments_row}
 use Rattle.table.specs.declared.row.Row.{Row}
 use Rattle.format.specs.Parse.{entries, pairs, name_row_at, content_row_at, parse_arguments, parse_names, parse_stored, parse_contents, parse_section, kind_at, parse_sections, parse, after_entry, after_pair}
-use Rattle.format.specs.Walk.{places_from, places, compression_at, walk_entries, pair_at, walk_pairs, pairs_end, walk_contents, walk_section, rows_at, walk}
+use Rattle.format.specs.Walk.{places_from, places, compression_at, walk_entries, entries_end, pair_at, walk_pairs, pairs_end, walk_contents, walk_section, rows_at, walk}
 use Rattle.format.proofs.EntryLaws.{entry-good}
 use Rattle.layout.proofs.Checked.{check-good, then-good}
 use Rattle.format.proofs.PairLaws.{pair-good}
@@ -32,11 +32,11 @@ module _ (p : List ℕ) (end : ℕ) where
     pub entries-walk :
         (count at : ℕ) (rs : List Row) →
         entries header row_of count p at end ≡ Ok rs →
-        rs ≡ walk_entries p row_at count at
-    unfolding entries walk_entries
+        (rs ≡ walk_entries p row_at count at) × (entries_end p count at ≡ end)
+    unfolding entries walk_entries entries_end
     entries-walk zero at rs e =
         let ended = check-good _ _ _ _ e in
-        cc ended.1
+        (cc ended.1, eqb-true at end ended.0)
     entries-walk (suc count) at rs e =
         let first = then-good _ _ _ e in
         let n = first.0 in
@@ -46,7 +46,7 @@ module _ (p : List ℕ) (end : ℕ) where
         let this : row_of at n ≡ row_at at = ap (row_of at) text in
         let there : after_entry header at n ≡ at + u32_at p at = omega (arith, told.size) in
         let left = entries-walk count (after_entry header at n) rest.0 rest.1 in
-        cc rest.2
+        (cc rest.2, cc)
 
   pub pairs-walk : (count at : ℕ) (rs : List Row) → pairs count p at end ≡ Ok rs → (rs ≡ walk_pairs p count at) × (pairs_end p count at ≡ end)
   unfolding pairs walk_pairs pairs_end
@@ -72,16 +72,23 @@ module _ (p : List ℕ) (at : ℕ) where
       go None f =
           let h = plain-good p at rs f in
           let held = entries-walk p _ 12 content_row_at (u32_at p (at + 24)) (at + 28) h.rest h.found in
-          h.all ∙ ap (λ (l : List Row). plain_row (u32_at p (at + 8)) ∷ l) held
+          h.all ∙ ap (λ (l : List Row). plain_row (u32_at p (at + 8)) ∷ l) held.0
       go Zlib f = cc
 
-  pub names-walk : (size : ℕ) (rs : List Row) → parse_names p at size ≡ Ok rs → rs ≡ walk_section p SourceNames at
+  pub contents-within : (size : ℕ) (rs : List Row) → parse_contents p at size ≡ Ok rs → compression_at p at ≡ None → entries_end p (u32_at p (at + 24)) (at + 28) ≤ at + size
+  contents-within size rs e plain =
+      let told = contents-good p at size rs e in
+      let h = plain-good p at rs (rw plain at told.1) in
+      let held = entries-walk p _ 12 content_row_at (u32_at p (at + 24)) (at + 28) h.rest h.found in
+      omega (arith, told.0.within, held.1)
+
+  pub names-walk : (size : ℕ) (rs : List Row) → parse_names p at size ≡ Ok rs → (rs ≡ walk_section p SourceNames at) × (entries_end p (u32_at p (at + 12)) (at + 18) ≤ at + size)
   unfolding walk_section
   names-walk size rs e =
       let told = names-good p at size rs e in
       let h = told.1 in
       let held = entries-walk p _ 16 (name_row_at p) (u32_at p (at + 12)) (at + 18) h.rest h.found in
-      h.all ∙ ap (λ (l : List Row). names_row ∷ l) held
+      (h.all ∙ ap (λ (l : List Row). names_row ∷ l) held.0, omega (arith, told.0.within, held.1))
 
   pub arguments-walk : (size : ℕ) (rs : List Row) → parse_arguments p at size ≡ Ok rs → (rs ≡ walk_section p Arguments at) × (pairs_end p (u32_at p (at + 16)) (at + 20) ≤ at + size)
   unfolding walk_section
@@ -94,7 +101,7 @@ module _ (p : List ℕ) (at : ℕ) where
   pub section-walk : (kind : SourceInfoSectionType) (rs : List Row) → parse_section kind p at (u32_at p at) ≡ Ok rs → rs ≡ walk_section p kind at
   unfolding parse_section walk_section
   section-walk SourceContents rs e = contents-walk (u32_at p at) rs e
-  section-walk SourceNames rs e = names-walk (u32_at p at) rs e
+  section-walk SourceNames rs e = (names-walk (u32_at p at) rs e).0
   section-walk Arguments rs e = (arguments-walk (u32_at p at) rs e).0
   section-walk (Unknown kind) rs e = cc
 

@@ -7,10 +7,15 @@ use native.Mathlib.Omega.{arith}
 use lib.ListN.{length}
 use Rattle.wire.specs.Number.{u32_at}
 use Rattle.format.specs.Parse.{after_pair}
-use Rattle.format.specs.Walk.{places_from, pair_at, pairs_end}
+use Rattle.format.specs.Walk.{places_from, entries_end, pair_at, pairs_end}
 
 module _ (p : List ℕ) where
-  -- ---- pairs
+  -- ---- entries and pairs
+
+  pub entries-forward : (count at : ℕ) → at ≤ entries_end p count at
+  unfolding entries_end
+  entries-forward zero at = omega arith
+  entries-forward (suc count) at = omega (arith, entries-forward count (at + u32_at p at))
 
   pub pairs-forward : (count at : ℕ) → at ≤ pairs_end p count at
   unfolding pairs_end

@@ -45,6 +45,11 @@ module _ (p : List ℕ) where
   walk_entries row_at zero at = []
   walk_entries row_at (suc count) at = row_at at ∷ walk_entries row_at count (at + u32_at p at)
 
+  -- the place after so many entries
+  unfoldable pub entries_end : ℕ → ℕ → ℕ
+  entries_end zero at = at
+  entries_end (suc count) at = entries_end count (at + u32_at p at)
+
   -- the row of the pair at a place
   abbrev pub pair_at : ℕ → Row
   pair_at at =

@@ -21,10 +21,10 @@ use Rattle.line_reader.specs.Ends.{part_end, next_end, end_from}
 use Rattle.line_reader.proofs.FieldLaws.{field-none, field-first, field_next, count-tab, count-last}
 
 -- a part ends within the line
-part-most : (s : List ℕ) (at : ℕ) → at ≤ length s → part_end s at ≤ length s
+pub part-most : (s : List ℕ) (at : ℕ) → at ≤ length s → part_end s at ≤ length s
 part-most s at h = omega (arith, until-least (is_any (tab ∷ [])) (drop at s), length-drop at s)
 
-next-most : (s : List ℕ) (end : ℕ) → end ≤ length s → next_end s end ≤ length s
+pub next-most : (s : List ℕ) (end : ℕ) → end ≤ length s → next_end s end ≤ length s
 next-most s end h = go (ltb end (length s)) refl
   where
     go : (more : Bool) → ltb end (length s) ≡ more → cond more (part_end s (end + 1)) end ≤ length s
@@ -32,10 +32,10 @@ next-most s end h = go (ltb end (length s)) refl
     go false e = h
 
 -- where a part follows, and where none does
-more-after : (s : List ℕ) (end : ℕ) → end < length s → next_end s end ≡ part_end s (end + 1)
+pub more-after : (s : List ℕ) (end : ℕ) → end < length s → next_end s end ≡ part_end s (end + 1)
 more-after s end h = rw (lt-ltb end (length s) h)
 
-none_after : (s : List ℕ) (end : ℕ) → length s ≤ end → next_end s end ≡ end
+pub none_after : (s : List ℕ) (end : ℕ) → length s ≤ end → next_end s end ≡ end
 none_after s end h = rw (le-ltb end (length s) h)
 
 -- the part after one that ends at a place
@@ -54,7 +54,7 @@ module _ (s : List ℕ) (at : ℕ) (within : at ≤ length s) where
   abbrev fields : List (List ℕ)
   fields = (split tab (drop at s)).rest
 
-  first_field : get_or fields 0 [] ≡ part_after s end (next_end s end)
+  pub first_field : get_or fields 0 [] ≡ part_after s end (next_end s end)
   first_field = go (ltb end (length s)) refl
     where
       go : (more : Bool) → ltb end (length s) ≡ more → get_or fields 0 [] ≡ part_after s end (next_end s end)
@@ -67,7 +67,7 @@ module _ (s : List ℕ) (at : ℕ) (within : at ≤ length s) where
           field-none s at end refl (let q : end ≡ length s = omega (arith, most) in q) 0 ∙ sym (ap (take (next_end s end - (end + 1))) none ∙ take-nil (next_end s end - (end + 1)))
 
   -- whether there are none
-  no_fields : eqb (length fields) 0 ≡ eqb end (length s)
+  pub no_fields : eqb (length fields) 0 ≡ eqb end (length s)
   no_fields = go (ltb end (length s)) refl
     where
       go : (more : Bool) → ltb end (length s) ≡ more → eqb (length fields) 0 ≡ eqb end (length s)
@@ -82,7 +82,7 @@ module _ (s : List ℕ) (at : ℕ) (within : at ≤ length s) where
 -- what follows a part: one field less
 module _ (s : List ℕ) (at : ℕ) (within : at ≤ length s) where
   -- a field at the next index, by the fields after the first
-  next_field :
+  pub next_field :
       (k : ℕ) →
       get_or (split tab (drop at s)).rest (suc k) [] ≡ cond (ltb (part_end s at) (length s)) (get_or (split tab (drop (part_end s at + 1) s)).rest k []) []
   next_field k = go (ltb (part_end s at) (length s)) refl
@@ -96,7 +96,7 @@ module _ (s : List ℕ) (at : ℕ) (within : at ≤ length s) where
           ap (λ (n : ℕ). get_or (split tab (drop (part_end s at + 1) s)).rest n []) (let q : suc k - 1 ≡ k = omega arith in q)
       go false e = field-none s at (part_end s at) refl (let q : part_end s at ≡ length s = omega (arith, ltb-false (part_end s at) (length s) e, part-most s at within) in q) (suc k)
 
-  more-fields :
+  pub more-fields :
       (k : ℕ) →
       eqb (length (split tab (drop at s)).rest) (suc k) ≡ (ltb (part_end s at) (length s) && eqb (length (split tab (drop (part_end s at + 1) s)).rest) k)
   more-fields k = go (ltb (part_end s at) (length s)) refl

@@ -24,7 +24,7 @@ use Rattle.lines.specs.Measure.{measure_lines}
 
 -- what follows a line, with what it says
 abbrev pub counted : Sizes → Record → Sizes
-counted m r = advance m r.tag (length (text 0 r)) (length (text 1 r))
+counted m r = advance m (Some r.tag) (length (text 0 r)) (length (text 1 r))
 
 -- the lines' records are measured, once all are read
 lines-measured :
@@ -52,7 +52,7 @@ lines-measured (next ∷ rest) n m line = go (read_line (bad_line n) m.previous 
     go (Err q) more = refl
     go (Ok r) more =
         more (counted m r) ∙
-        ap (λ (t : Option Tag). then (read_lines (n + 1) t next rest) (λ (rs : List Record). finish (measure_records (counted m r) rs))) (next-tag m r.tag (length (text 0 r)) (length (text 1 r))) ∙
+        ap (λ (t : Option Tag). then (read_lines (n + 1) t next rest) (λ (rs : List Record). finish (measure_records (counted m r) rs))) (next-tag m (Some r.tag) (length (text 0 r)) (length (text 1 r))) ∙
         inner r (read_lines (n + 1) (Some r.tag) next rest)
 
 -- a whole sheet

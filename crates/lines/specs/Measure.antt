@@ -1,6 +1,6 @@
 -- Measuring, line by line: each line is checked, and then counted. It is how the pass goes; that it comes to the length of a sheet's payload is a theorem
 -- (proofs/Measured.antt).
-use Rattle.std.specs.Prelude.{ℕ, ◌+◌, ◌≡◌, ◌<◌, List, [], ◌∷◌, eqb, length}
+use Rattle.std.specs.Prelude.{ℕ, ◌+◌, ◌≡◌, ◌<◌, List, [], ◌∷◌, eqb, length, Some}
 use Rattle.layout.specs.Checked.{Checked, check, then}
 use Rattle.format.specs.Records.{text}
 use Rattle.sheet.specs.Fields.{newline}
@@ -19,4 +19,4 @@ unfoldable pub measure_lines : ℕ → Sizes → List ℕ → List (List ℕ) �
 measure_lines n m last [] = check (eqb (length last) 0) (bad_line n) (λ _. finish m)
 measure_lines n m first (next ∷ rest) =
     then (read_line (bad_line n) m.previous first) (λ r.
-    measure_lines (n + 1) (advance m r.tag (length (text 0 r)) (length (text 1 r))) next rest)
+    measure_lines (n + 1) (advance m (Some r.tag) (length (text 0 r)) (length (text 1 r))) next rest)

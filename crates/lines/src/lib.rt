@@ -38,7 +38,7 @@ pub fn measure(sheet: &[u8]) -> Result<u32, Refusal>
     while !rest.is_empty() {
         let (line, after) = split_line(rest).ok_or(Refusal::BadLine(number))?;
         let line = line_reader::check_line(line, sizes.previous, number)?;
-        sizes = sizes.advance(line.tag, line.first, line.second);
+        sizes = sizes.advance(Some(line.tag), line.first, line.second);
         // the last number that 32 bits hold is that of all lines after it
         number = number.saturating_add(1);
         rest = after;

@@ -24,7 +24,13 @@ use Rattle.parse.proofs.Count.{add, add_none, add-add}
 use Rattle.layout.proofs.Checked.{taking-ok, taking-err}
 use Rattle.parse.proofs.SectionCount.{sections-more}
 
--- the section that the reader takes is in the payload, and its rows are at most half of its bytes
+-- a section's rows are at most half of its bytes
+pub half-of-size : (p : List ℕ) (s : Section) (more : ℕ) → 8 ≤ s.size → counted (parse_section s.kind p s.at s.size) ≡ Ok more → 2 * more ≤ s.size
+half-of-size p s more least e =
+    let (first, good-body, counts) = taking-ok length _ more e in
+    omega (arith, section-count p s.at s.size first s.kind least good-body, counts)
+
+-- the section that the reader takes is in the payload
 module _ (p : List ℕ) (at : ℕ) (s : Section) (e : taken p at ≡ Ok s) where
   header : Header p at (frame p at) s
   header = section-found p at (frame p at) s e
@@ -33,11 +39,6 @@ module _ (p : List ℕ) (at : ℕ) (s : Section) (e : taken p at ≡ Ok s) where
   inside =
       let told = frame-good p at s.size header.sized in
       (told.least, omega (arith, told.within, header.placed))
-
-  pub half-of-size : (more : ℕ) → counted (parse_section s.kind p s.at s.size) ≡ Ok more → 2 * more ≤ s.size
-  half-of-size more e =
-      let (first, good-body, counts) = taking-ok length _ more e in
-      omega (arith, section-count p s.at s.size first s.kind inside.0 good-body, counts)
 
 module _ (p : List ℕ) (count : ℕ) where
   -- what is to be answered
@@ -59,6 +60,9 @@ module _ (p : List ℕ) (count : ℕ) where
   }
 
   module _ (at rows done : ℕ) (so : Passed at rows done) where
+    pub rows-bounded : length p ≤ limit → rows ≤ limit
+    rows-bounded h = omega (arith, h, so.within, so.half)
+
     -- in a turn one section more is left than after it
     module _ (less : done < count) where
       abbrev left : ℕ
@@ -93,7 +97,7 @@ module _ (p : List ℕ) (count : ℕ) where
             let h = header p at s e in
             let told = frame-good p at s.size h.sized in
             let (first, good-body, counts) = taking-ok length body more (ap counted (sym same) ∙ f) in
-            let bound = half-of-size p at s e more f in
+            let bound = half-of-size p s more (inside p at s e).0 f in
             rw h.sized
             (record {
               within = told.within;
@@ -108,7 +112,7 @@ module _ (p : List ℕ) (count : ℕ) where
         pub rows-fit : (more : ℕ) → counted (parse_section s.kind p s.at s.size) ≡ Ok more → length p ≤ limit → rows + more ≤ limit
         rows-fit more f h =
             let told = frame-good p at s.size (header p at s e).sized in
-            omega (arith, h, told.within, so.half, half-of-size p at s e more f)
+            omega (arith, h, told.within, so.half, half-of-size p s more (inside p at s e).0 f)
 
     -- when all are done, nothing may be left
     module _ (over : count ≤ done) where

@@ -1,9 +1,13 @@
 -- The copy section by section: what it has for the next section, and for those after it.
 -- Assumes nothing.
-use Rattle.std.specs.Prelude.{cond, is_ok, true}
+use Rattle.std.specs.Prelude.{cond, is_ok}
 use Prim.Native.Nat.{ℕ, ◌+◌, ◌≤◌}
+use mathlib.Core.Bool.{Bool, true, false}
 use mathlib.Core.List.{List, [], ◌∷◌, flat_map, append-nil}
-use mathlib.Core.Path.{◌≡◌, refl, ap}
+use mathlib.Core.Path.{◌≡◌, refl, ap, ◌∙◌}
+use mir.Val.{bool_byte}
+use Rattle.std.specs.List.{count_by}
+use Rattle.std.proofs.lemmas.List.Sums.{sum_by-cons}
 use native.Mathlib.Omega.{arith}
 use lib.ListN.{length, length-append}
 use Rattle.wire.specs.Number.{u16_at, u32_at}
@@ -24,7 +28,7 @@ use Rattle.format.proofs.Measured.{copy-by-walk}
 use Rattle.format.proofs.Secrecy.{copy-is-public}
 use Rattle.format.proofs.SectionLaws.{parse-good}
 use Rattle.accepted.proofs.Accepted.{made-walked}
-use Rattle.accepted.specs.Sections.{sections_from, sections}
+use Rattle.accepted.specs.Sections.{Found, sections_from, sections}
 use Rattle.public_copy.specs.Joined.{joined, copied}
 
 -- a kind has a section where it is known
@@ -36,7 +40,7 @@ copy-known p Arguments at = refl
 copy-known p (Unknown kind) at = refl
 
 -- a section alone
-joined-one : (section : List ℕ) → joined (section ∷ []) ≡ section
+pub joined-one : (section : List ℕ) → joined (section ∷ []) ≡ section
 unfolding flat_map
 joined-one section = append-nil section
 
@@ -79,3 +83,23 @@ copied-within p bytes good =
     let same : copy p ≡ c = cc (copy-by-walk.finds p rows bytes found) in
     let long = copy-long (flat_map (copy_at p) (places_from p (u16_at p 6) 8)) in
     omega (arith, (parse-good p rows found).0, short, ap length same, long, ap length (copied-all p (u16_at p 6) 8))
+
+-- ---- how many sections there are
+
+abbrev pub known_count : List Found → ℕ
+known_count ss = count_by (λ (s : Found). known s.kind) ss
+
+-- the next of those that are left, counted by its kind
+pub known-next :
+    (s : Found) {left rest : List Found} (count all : ℕ) →
+    left ≡ s ∷ rest →
+    count + known_count left ≡ all →
+    count + bool_byte (known s.kind) + known_count rest ≡ all
+known-next s {left = left} {rest = rest} count all next e = go (known s.kind) refl
+  where
+    more : known_count left ≡ cond (known s.kind) 1 0 + known_count rest
+    more = ap known_count next ∙ sum_by-cons (λ (x : Found). cond (known x.kind) 1 0) s rest
+
+    go : (b : Bool) → known s.kind ≡ b → count + bool_byte b + known_count rest ≡ all
+    go true is = let one = rw is at more in omega (arith, e, one)
+    go false is = let none = rw is at more in omega (arith, e, none)

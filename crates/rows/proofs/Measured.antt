@@ -9,16 +9,16 @@ use lib.ListN.{length}
 use Rattle.layout.specs.Checked.{Checked, check}
 use Rattle.layout.specs.declared.refusal.Refusal.{Refusal}
 use Rattle.layout.specs.declared.refusal.Refusal.TheVariants.{WontFit}
-use Rattle.layout.proofs.Checked.{after-fault, after-good, check-good, then-good}
+use Rattle.layout.proofs.Checked.{after-fault, after-good, then-good}
 use Rattle.table.specs.Rows.{bytes_span, text_span, value_span, spans_by}
-use Rattle.table.specs.Tags.{tag_of, same_tag, begins_section}
+use Rattle.table.specs.Tags.{tag_of, same_tag, opens_section}
 use Rattle.table.specs.declared.row.Row.{Row}
 use Rattle.table.specs.declared.tag.Tag.{Tag}
 use Rattle.table.specs.declared.tag.Tag.TheVariants.{PlainContents, PackedContents, Names, Arguments, Unknown, Content, Name, Pair}
 use Rattle.format.specs.Encoding.{encode, within_limits}
 use Rattle.format.specs.Records.{Record, text, is_placed, in_order, sections}
 use Rattle.format.specs.Resolve.{sections_of, resolve}
-use Rattle.format.specs.Rules.{tag_rule, obeys, check_row, check_rows}
+use Rattle.format.specs.Rules.{tag_rule, check_row, check_rows}
 use Rattle.format.specs.Said.{said}
 use Rattle.format.specs.Sections.{Section}
 use Rattle.format.specs.Write.{written}
@@ -28,7 +28,7 @@ use Rattle.sizes.specs.Measure.{sized, opened, added, advance, nothing, finish, 
 use Rattle.sizes.specs.declared.sizes.Sizes.{Sizes}
 use Rattle.sizes.proofs.MeasuredRecords.{next-tag, measured-records}
 use Rattle.sizes.proofs.Sized.{sized-check}
-use Rattle.rows.specs.Measure.{count_by, count_row, measure_from}
+use Rattle.rows.specs.Measure.{count_row, measure_from}
 
 -- a row that obeys the rule of its tag stands where a record of that tag may
 is-placed : (previous : Option Tag) (r : Row) (t : Tag) → Ruled previous (Some t) r → is_placed previous t ≡ true
@@ -42,35 +42,26 @@ is-placed previous r Content h = ((and-eq-true_iff _ _).0 h).0
 is-placed previous r Name h = ((and-eq-true_iff _ _).0 h).0
 is-placed previous r Pair h = ((and-eq-true_iff _ _).0 h).0
 
--- what was counted has the tag of a row that obeys the rule of its tag
-row-tag : (previous : Option Tag) (m : Sizes) (r : Row) → Ruled previous (tag_of r.tag) r → (count_row m r).previous ≡ tag_of r.tag
-unfolding count_by tag_rule
-row-tag previous m r rule = go (tag_of r.tag) rule
+-- what was counted has the row's tag
+row-tag : (m : Sizes) (r : Row) → (count_row m r).previous ≡ tag_of r.tag
+unfolding count_row
+row-tag m r = go (opens_section (tag_of r.tag))
   where
-    counted :
-        (t : Tag) (b : Bool) →
-        (cond b (advance m t (bytes_span r).count 0) (advance m t (text_span r).count (value_span r).count)).previous ≡ Some t
-    counted t true = next-tag m t _ _
-    counted t false = next-tag m t _ _
-
-    go : (t : Option Tag) → Ruled previous t r → (count_by t m r).previous ≡ t
-    go None h = cc
-    go (Some t) h = counted t (begins_section t)
+    go :
+        (b : Bool) →
+        (cond b (advance m (tag_of r.tag) (bytes_span r).count 0) (advance m (tag_of r.tag) (text_span r).count (value_span r).count)).previous ≡ tag_of r.tag
+    go true = next-tag m (tag_of r.tag) _ _
+    go false = next-tag m (tag_of r.tag) _ _
 
 module _ (payload edit : List ℕ) where
-  -- a row that passes obeys the rule of its tag
-  row-rule : (previous : Option Tag) (r : Row) → check_row payload edit previous r ≡ Ok tt → Ruled previous (tag_of r.tag) r
-  unfolding check_row obeys
-  row-rule previous r e = ((and-eq-true_iff _ _).0 (check-good _ _ _ _ e).0).0
-
   -- what a row names is as long as it says, so it counts as its record
   row_counts :
       (m : Sizes) (r : Row) (t : Option Tag) →
       tag_of r.tag ≡ t →
       RowOk payload edit t r →
       (let q : Record = row_record payload edit r in
-      count_row m r ≡ advance m q.tag (length (text 0 q)) (length (text 1 q)))
-  unfolding count_by advance opened added said spans_by
+      count_row m r ≡ advance m (Some q.tag) (length (text 0 q)) (length (text 1 q)))
+  unfolding count_row advance opened added said spans_by
   row_counts m r (Some PlainContents) e ok = rw e
   row_counts m r (Some PackedContents) e ok = rw (e, ok)
   row_counts m r (Some Names) e ok = rw e
@@ -97,7 +88,7 @@ module _ (payload edit : List ℕ) where
       let (rule, ok, rest) = first-ok payload edit m.previous r rows e in
       let (done, first, others) = then-good _ _ _ e in
       after-good _ _ first ∙
-      rows-measured rows (count_row m r) (rw (row-tag m.previous m r rule) rest) ∙
+      rows-measured rows (count_row m r) (rw (row-tag m r) rest) ∙
       ap (λ (next : Sizes). finish (measure_records next (row_records payload edit rows))) (row_counts m r (tag_of r.tag) refl ok)
 
   rows-refused : (refusal : Refusal) (rows : List Row) (m : Sizes) → check_rows payload edit m.previous rows ≡ Err refusal → measure_from payload edit m rows ≡ Err refusal
@@ -114,7 +105,7 @@ module _ (payload edit : List ℕ) where
           let found : ◌≡◌ {A = Checked (Unit {0})} (Err f) (Err refusal) = sym (after-fault _ _ q) ∙ e in
           let same : f ≡ refusal = cc in
           after-fault _ _ q ∙ ap Err same
-      go (Ok tt) q others = after-good _ _ q ∙ others (rw (row-tag m.previous m r (row-rule m.previous r q)) (sym (after-good _ _ q) ∙ e))
+      go (Ok tt) q others = after-good _ _ q ∙ others (rw (row-tag m r) (sym (after-good _ _ q) ∙ e))
 
   pub measured-is-written : (rows : List Row) → (measure_from payload edit nothing rows) ≡ sized (written payload edit rows)
   unfolding written resolve

@@ -11,22 +11,19 @@ use sizes::Sizes;
 use table::{Row, TableRows, Tag};
 
 // Counts a row by its tag and the lengths of what it names.
-#[tactic(auto, unfolding(crate::specs::Measure::count_by))]
+#[tactic(auto, unfolding(crate::specs::Measure::count_row))]
 fn count_row(sizes: Sizes, row: Row) -> Sizes
     ensures { result ≡ count_row sizes row }
 {
-    match Tag::from_u32(row.tag) {
-        Some(tag) if tag.begins_section() => {
-            sizes.advance(tag, row.bytes_span().count as usize, 0)
-        }
-        Some(tag) => sizes.advance(
-            tag,
-            row.text_span().count as usize,
-            row.value_span().count as usize,
-        ),
-        // a row of no tag was refused
-        None => sizes,
+    let tag = Tag::from_u32(row.tag);
+    if tag.is_some_and(Tag::begins_section) {
+        return sizes.advance(tag, row.bytes_span().count as usize, 0);
     }
+    sizes.advance(
+        tag,
+        row.text_span().count as usize,
+        row.value_span().count as usize,
+    )
 }
 
 // Checks rows in order and counts each.

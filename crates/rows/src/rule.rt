@@ -2,12 +2,14 @@
 // row, whose number it was looked up by once.
 ghost use Rattle.std.specs.Prelude.{cond, ◌≡◌, [], Some};
 ghost use Rattle.layout.specs.Spans.{inside};
+ghost use Rattle.layout.specs.TextCheck.{check_span};
 ghost use Rattle.table.specs.Rows.{spans_by};
 ghost use Rattle.table.specs.Tags.{begins_section};
 ghost use Rattle.format.specs.Rules.{tag_rule, all_inside, check_texts, check_row};
 
-use layout::{Refusal, Sides, SourceInfoSectionType, Span, check_whole};
+use layout::{Refusal, Sides, SourceInfoSectionType, Span, check_text};
 use table::{Row, Tag};
+use wire::TextLength;
 
 // Whether a span's side is 0 or 1, and its bytes are all there.
 fn has(sides: Sides<'_>, span: Span) -> bool
@@ -30,16 +32,28 @@ fn has_spans(sides: Sides<'_>, tag: Tag, row: Row) -> bool
     }
 }
 
+// The text of a span.
+#[inline(always)]
+fn check_span(sides: Sides<'_>, span: Span) -> Result<(), Refusal>
+    ensures { result ≡ check_span sides.entry.payload.now sides.entry.edit.now span }
+{
+    check_text(
+        sides.side(span.side),
+        span.start as usize,
+        TextLength(span.count),
+    )
+}
+
 // The texts that a row of a tag names, in order: a content and a name have one, a pair two.
-#[tactic(auto, unfolding(table::specs::Rows::spans_by, format::specs::Rules::check_texts, layout::specs::Checked::then, layout::specs::TextCheck::check_text))]
+#[tactic(auto, unfolding(table::specs::Rows::spans_by, format::specs::Rules::check_texts, layout::specs::Checked::then))]
 fn check_texts(sides: Sides<'_>, tag: Tag, row: Row) -> Result<(), Refusal>
     ensures { result ≡ check_texts sides.entry.payload.now sides.entry.edit.now (cond (begins_section tag) [] (spans_by (Some tag) row)) }
 {
     match tag {
-        Tag::Content | Tag::Name => check_whole(sides.bytes_of(row.text_span())),
+        Tag::Content | Tag::Name => check_span(sides, row.text_span()),
         Tag::Pair => {
-            check_whole(sides.bytes_of(row.text_span()))?;
-            check_whole(sides.bytes_of(row.value_span()))
+            check_span(sides, row.text_span())?;
+            check_span(sides, row.value_span())
         }
         _ => Ok(()),
     }

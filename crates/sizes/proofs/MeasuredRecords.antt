@@ -63,7 +63,7 @@ abbrev extending : Sizes → Record → Sizes
 extending m r = extend m r.tag (length (text 0 r)) (length (text 1 r))
 
 abbrev next : Sizes → Record → Sizes
-next m r = advance m r.tag (length (text 0 r)) (length (text 1 r))
+next m r = advance m (Some r.tag) (length (text 0 r)) (length (text 1 r))
 
 -- one step comes to the same
 record Same (m after : Sizes) (r : Record) (rs : List Record) : Type 0 where
@@ -228,9 +228,10 @@ module _ (m : Sizes) (r : Record) (rs : List Record) where
 
 -- ---- records
 
-pub next-tag : (m : Sizes) (t : Tag) (first second : ℕ) → (advance m t first second).previous ≡ Some t
+pub next-tag : (m : Sizes) (t : Option Tag) (first second : ℕ) → (advance m t first second).previous ≡ t
 unfolding advance
-next-tag m t first second = go (begins_section t)
+next-tag m None first second = refl
+next-tag m (Some t) first second = go (begins_section t)
   where
     go : (b : Bool) → (cond b (begin m t first) (extend m t first second)).previous ≡ Some t
     go true = refl

@@ -66,8 +66,10 @@ extend m t first second =
     let current : ℕ = capped limit (m.current + added t first second) in
     sizes (Some t) m.sections m.complete current (m.wide || (same_tag (Some t) (Some Name) && ltb widest current))
 
-unfoldable pub advance : Sizes → Tag → ℕ → ℕ → Sizes
-advance m t first second = cond (begins_section t) (begin m t first) (extend m t first second)
+-- what has no tag adds nothing
+unfoldable pub advance : Sizes → Option Tag → ℕ → ℕ → Sizes
+advance m None first second = sizes None m.sections m.complete (capped limit m.current) m.wide
+advance m (Some t) first second = cond (begins_section t) (begin m t first) (extend m t first second)
 
 -- nothing but the main header
 abbrev pub nothing : Sizes
@@ -83,4 +85,4 @@ finish m =
 -- records in order, each counted by its tag and the lengths of its texts
 unfoldable pub measure_records : Sizes → List Record → Sizes
 measure_records m [] = m
-measure_records m (r ∷ rs) = measure_records (advance m r.tag (length (text 0 r)) (length (text 1 r))) rs
+measure_records m (r ∷ rs) = measure_records (advance m (Some r.tag) (length (text 0 r)) (length (text 1 r))) rs

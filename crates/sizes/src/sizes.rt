@@ -76,12 +76,19 @@ impl Sizes {
         }
     }
 
-    // Counts a record of a tag. The first length is that of the bytes that a section's own record stores, or of
+    // Counts a record of a tag; one of no tag adds nothing. The first length is that of the bytes that a section's own record stores, or of
     // an entry's text; the second is that of a pair's value. A length that a tag has not is not looked at.
     #[tactic(auto, using(crate::proofs::Capped::capped_first), unfolding(crate::specs::Measure::advance))]
-    pub fn advance(self, tag: Tag, first: usize, second: usize) -> Sizes
+    pub fn advance(self, tag: Option<Tag>, first: usize, second: usize) -> Sizes
         ensures { result ≡ advance self tag first second }
     {
+        let Some(tag) = tag else {
+            return Sizes {
+                previous: None,
+                current: cap(PAYLOAD_LIMIT, self.current as usize),
+                ..self
+            };
+        };
         let capped = cap(PAYLOAD_LIMIT, first);
         if tag.begins_section() {
             return self.begin(tag, capped);

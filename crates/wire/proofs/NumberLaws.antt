@@ -3,15 +3,15 @@
 use mathlib.Core.Path.{◌≡◌, refl, ap, ◌∙◌}
 use mathlib.Core.List.{List, [], ◌∷◌, ◌++◌}
 use Prim.Native.Nat.{ℕ, zero, suc, ◌+◌, ◌*◌, ◌/◌, ◌%◌, ◌^◌, ◌≤◌, ◌<◌}
-use native.Mathlib.Nat.{zero-add, suc-add, mul-zero, one-mul, pow-suc, pow-succ', mul_assoc, add_assoc, add-zero, le_of_suc-le-suc, not-suc-le-zero, mod-add-div, div-lt_iff_lt-mul, one-le-pow, mod-lt}
+use native.Mathlib.Nat.{zero-add, suc-add, mul-zero, one-mul, pow-suc, pow-succ', mul_assoc, add_assoc, add-zero, le_of_suc-le-suc, not-suc-le-zero, mod-add-div, div-lt_iff_lt-mul, div-div-eq-div-mul, one-le-pow, mod-lt, div-one}
 use native.Mathlib.Omega.{arith}
 use native.Mathlib.Numerals.{add-one}
 use lib.Arith.{digits_div, digits_mod, mod-mul}
 use lib.Dec.{lit<}
-use lib.ListN.{length, get_or, take, drop}
+use lib.ListN.{length, get_or, take, drop, drop_of_length-le}
 use lib.Seq.{sets, drop-drop}
 use Rattle.wire.specs.Number.{byte_at, little_endian, u16_at, u32_at, bytes_of}
-use Rattle.wire.proofs.Sets.{sets-joined}
+use Rattle.wire.proofs.Sets.{sets-append, sets-joined}
 
 -- ---- reading
 
@@ -37,6 +37,10 @@ little_endian-add (suc v) w [] = simp (little_endian-none, mul-zero)
 little_endian-add (suc v) w (b ∷ s) =
     rw (suc-add, pow-succ', mul_assoc, little_endian-add v w s) (omega arith)
 
+-- at or past the end a number is 0
+pub little_endian-past : (w : ℕ) (p : List ℕ) (at : ℕ) → length p ≤ at → little_endian w (drop at p) ≡ 0
+little_endian-past w p at h = rw (drop_of_length-le p h) (little_endian-none w)
+
 -- the numbers of two bytes and of four, byte by byte
 pub u16-bytes : (p : List ℕ) (at : ℕ) → u16_at p at ≡ byte_at p (at + 0) + 256 * byte_at p (at + 1)
 unfolding little_endian
@@ -49,6 +53,13 @@ u32-bytes p at =
     omega (arith, u16-bytes p at, upper, rw drop-drop at (little_endian-add 2 2 (drop at p)))
 
 pub ruleset number_bytes = (u16-bytes, u32-bytes)
+
+-- bytes after the width do not count
+pub little_endian-prefix : (w : ℕ) (s t : List ℕ) → w ≤ length s → little_endian w (s ++ t) ≡ little_endian w s
+unfolding little_endian
+little_endian-prefix zero s t h = refl
+little_endian-prefix (suc w) [] t h = absurd (not-suc-le-zero h)
+little_endian-prefix (suc w) (b ∷ s) t h = ap (λ (n : ℕ). b + 256 * n) (little_endian-prefix w s t (le_of_suc-le-suc h))
 
 -- a number of a width is below 256 to the width
 pub little_endian-below : (w : ℕ) (s : List ℕ) → ((k : ℕ) → get_or s k 0 < 256) → little_endian w s < 256 ^ w
@@ -72,6 +83,12 @@ bytes_of-below zero n k = lit< tt
 bytes_of-below (suc w) n zero = mod-lt n (lit< tt)
 bytes_of-below (suc w) n (suc k) = bytes_of-below w (n / 256) k
 
+-- a number's bytes are its low bytes, and then its high ones
+pub bytes_of-add : (v w n : ℕ) → bytes_of (v + w) n ≡ bytes_of v n ++ bytes_of w (n / 256 ^ v)
+unfolding bytes_of
+bytes_of-add zero w n = rw (zero-add, div-one)
+bytes_of-add (suc v) w n = rw (suc-add, pow-succ', ← div-div-eq-div-mul) (ap (λ (s : List ℕ). n % 256 ∷ s) (bytes_of-add v w (n / 256)))
+
 -- what does not fit the width does not count
 pub bytes_of-low : (w n : ℕ) → bytes_of w (n % 256 ^ w) ≡ bytes_of w n
 unfolding bytes_of
@@ -80,6 +97,11 @@ bytes_of-low (suc w) n =
     let e : n % 256 ^ suc w ≡ n / 256 % 256 ^ w * 256 + n % 256 = rw pow-suc (mod-mul n (one-le-pow w 256 (lit< tt)) (lit< tt)) in
     let r : n % 256 < 256 = mod-lt n (lit< tt) in
     rw (e, digits_mod, digits_div) (ap (λ (s : List ℕ). n % 256 ∷ s) (bytes_of-low w (n / 256)))
+
+-- to store a number's bytes is to store the low ones, and then the high ones
+pub sets-bytes_of-add : (v w n : ℕ) (l : List ℕ) (i : ℕ) → sets l i (bytes_of (v + w) n) ≡ sets (sets l i (bytes_of v (n % 256 ^ v))) (i + v) (bytes_of w (n / 256 ^ v))
+sets-bytes_of-add v w n l i =
+    rw (bytes_of-low, bytes_of-add, sets-append (bytes_of v n) (bytes_of w (n / 256 ^ v)) l i, length-bytes_of)
 
 -- ---- both ways
 

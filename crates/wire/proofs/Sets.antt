@@ -6,10 +6,11 @@ use Prim.Native.Nat.{ℕ, suc, ◌+◌, ◌-◌, min, ◌≤◌, ◌<◌}
 use native.Mathlib.Nat.{add-zero, add-suc, suc-add, min-eq_left, min-eq_right}
 use native.Mathlib.Omega.{arith}
 use native.Mathlib.Decide.{dec_le}
-use lib.ListN.{length, take, drop, set, replicate, length-replicate, take-append-drop}
+use native.Mathlib.Numerals.{add-one}
+use lib.ListN.{length, get_or, take, drop, set, replicate, length-replicate, take-append-drop}
 use borrow.Rule.Slice.PartMut.{put_mid}
 use Rattle.std.proofs.lemmas.List.Edits.{sets-eq}
-use lib.Seq.{sets, length-sets, length-take-le, set_out, take-length, set-set, set_comm, drop-drop}
+use lib.Seq.{sets, length-sets, length-take-le, set_out, take-length, take-suc, set-set, set_comm, drop-drop}
 use Rattle.std.proofs.lemmas.List.{append_assoc, take-replicate}
 
 module _ {A : Type 0} where
@@ -30,6 +31,12 @@ module _ {A : Type 0} where
   -- what comes after the end may be left out of a run
   pub sets-within : (vs ws l : List A) (i : ℕ) → length l ≤ i + length vs → sets l i (vs ++ ws) ≡ sets l i vs
   sets-within vs ws l i h = sets-append vs ws l i ∙ sets-past ws (sets l i vs) (i + length vs) (omega (arith, length-sets l i vs))
+
+  -- one store more, of the next of several values
+  pub sets-next : (vs l : List A) (i n : ℕ) (d : A) → n < length vs → set (sets l i (take n vs)) (i + n) (get_or vs n d) ≡ sets l i (take (n + 1) vs)
+  sets-next vs l i n d h =
+      let size : length (take n vs) ≡ n = length-take-le n vs (omega arith) in
+      rw (add-one, take-suc vs n d h, sets-append (take n vs) (get_or vs n d ∷ []) l i, size)
 
   -- of several values, those that fit are stored
   pub sets-room : (vs l : List A) (i : ℕ) → sets l i (take (min (length vs) (length l - i)) vs) ≡ sets l i vs

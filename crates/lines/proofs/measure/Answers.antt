@@ -1,5 +1,6 @@
 -- `measure` meets its contract: at each line, what is left to measure is a line that is not closed, a refusal, or the line's sizes and the rest.
 use Rattle.std.proofs.Common.{◌≡◌, sym, ap, ◌∙◌, ◌+◌, arith}
+use Rattle.std.specs.Prelude.{Some}
 use Rattle.std.specs.Result.{result_ok}
 use Rattle.std.proofs.lemmas.Result.{err_from_is_err_and}
 use Rattle.layout.proofs.Checked.{refused-by}
@@ -33,7 +34,7 @@ loop-rest-preserved c =
     let told = rw number at c.check_line.ensures in
     let (r, good, is) = told_line _ _ (sym told ∙ c.in_ok-line-2.was) in
     let step = read c.loop-rest.rest.now n c.loop-rest.sizes _ _ first r good in
-    let sizes : c.advance-sizes.result ≡ counted c.loop-rest.sizes r = c.advance-sizes.ensures ∙ ap (λ (k : LineSizes). advance c.loop-rest.sizes k.tag k.first k.second) is in
+    let sizes : c.advance-sizes.result ≡ counted c.loop-rest.sizes r = c.advance-sizes.ensures ∙ ap (λ (k : LineSizes). advance c.loop-rest.sizes (Some k.tag) k.first k.second) is in
     (n + 1, omega (arith, number), rw sizes (sym step ∙ same))
 
 pub returns : goal.returns

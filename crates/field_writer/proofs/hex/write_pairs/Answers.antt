@@ -1,22 +1,33 @@
--- `field_writer::hex::write_pairs` meets its contract: a turn stores the pair of its byte.
-use Rattle.std.proofs.Common.{sym, arith, drop, get_or, ◌+◌, ◌*◌, ◌≡◌}
+-- `write_pairs` meets its contract: the pairs that fit, and the one that the output ends within.
+use Rattle.std.proofs.Common.{◌≡◌, ◌<◌, ◌≤◌, ◌+◌, ◌*◌, ℕ, List, sym, ap, ◌∙◌, length, take, arith}
+use lib.Seq.{take-length}
 use Rattle.std.proofs.lemmas.List.Edits.{sets}
 use Rattle.wire.proofs.Sets.{sets-past}
-use Rattle.format.proofs.Storing.{left-next, left-none}
-use Rattle.sheet.specs.Fields.{hex_pair, hex_pairs}
-use Rattle.field_writer.proofs.Fields.{pairs_next, pairs_end_lem}
+use Rattle.sheet.specs.Fields.{hex_pairs}
+use Rattle.field_writer.proofs.Fields.{pairs-fit, pairs-cut}
 use Rattle.field_writer.proofs.hex.write_pairs.Goals as goal
 
 pub returns-then-output-at : goal.returns-then-output-at
 returns-then-output-at c = sym (sets-past (hex_pairs c.args.bytes.now) c.args.output.now c.args.at (omega arith))
 
-pub loop-i-preserved : goal.loop-i-preserved
-loop-i-preserved c =
+pub returns-then-whole-bytes : goal.returns-then-whole-bytes
+returns-then-whole-bytes c =
     let bytes = c.args.bytes.now in
-    let i = c.loop-i.i in
-    let pair = hex_pair (get_or bytes i 0) in
-    let stored : c.write_array.new.output ≡ sets c.loop-i.output (c.args.at + 2 * i) pair = cc in
-    left-next pair (hex_pairs (drop (i + 1) bytes)) (pairs_next bytes i (omega arith)) c.loop-i.invariant (omega arith) stored
+    let output = c.args.output.now in
+    let at = c.args.at in
+    let w = c.min-whole.result in
+    let fits : at + 2 * w ≤ length output = omega (arith, c.min-whole.ensures) in
+    let ends : length output < at + 2 * w + 2 = omega (arith, c.min-whole.ensures) in
+    let fit = pairs-fit bytes c.fill_pairs.new.to output at w _ c.fill_pairs.ensures (omega arith) (omega arith) (omega arith) in
+    c.write_array.ensures ∙ rw c.pair.ensures (pairs-cut bytes _ output at w c.if-whole-bytes.true ends fit)
 
-pub returns : goal.returns
-returns c = (left-none (pairs_end_lem c.args.bytes.now c.loop-i.i (omega arith)) c.loop-i.invariant).1
+pub returns-else-whole-bytes : goal.returns-else-whole-bytes
+returns-else-whole-bytes c =
+    let bytes = c.args.bytes.now in
+    let output = c.args.output.now in
+    let at = c.args.at in
+    let w = c.min-whole.result in
+    let fits : at + 2 * w ≤ length output = omega (arith, c.min-whole.ensures) in
+    let all : w ≡ length bytes = omega (arith, c.min-whole.ensures) in
+    let fit = pairs-fit bytes c.fill_pairs.new.to output at w _ c.fill_pairs.ensures (omega arith) (omega arith) (omega arith) in
+    fit ∙ ap (λ (s : List ℕ). sets output at (hex_pairs s)) (ap (λ (n : ℕ). take n bytes) all ∙ take-length bytes)

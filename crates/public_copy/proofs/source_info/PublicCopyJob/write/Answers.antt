@@ -17,8 +17,8 @@ returns c =
     let p = c.args.payload.bytes.now in
     let count = u16_at p 6 in
     let sections = flat_map (copy_at p) (places_from p count 8) in
-    let many = c.known_sections-sections.ensures ∙ known-many p (copy_at p) (λ at. copy-known p (kind_at p at) at) count 8 in
-    let made = rw (copied-all p count 8) at c.copy_sections-size.ensures in
+    let many = c.copy_sections-end.ensures.sections_value ∙ known-many p (copy_at p) (λ at. copy-known p (kind_at p at) at) count 8 in
+    let made = rw (copied-all p count 8) at c.copy_sections-end.ensures in
     record {
       value = made.value ∙ sym (copy-long sections);
       output_after =
