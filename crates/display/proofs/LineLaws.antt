@@ -13,7 +13,6 @@ use Rattle.std.proofs.lemmas.List.{length-map, map-append}
 use Rattle.std.specs.List.{filter_map}
 use Rattle.std.specs.Prelude.{Option}
 use Rattle.accepted.specs.Sections.{Found, sections}
-use Rattle.display.proofs.Numbered.{items}
 use Rattle.display.specs.Summary.{records_line, summary_line, page_of, page_said}
 use Rattle.display.specs.declared.summary.Summary.{Summary}
 
@@ -113,16 +112,16 @@ pub page-none : (count : ℕ) → page_of count [] ≡ heading count
 unfolding lines
 page-none count = append-nil (heading count)
 
--- after an item with its place comes its line
+-- after what is said comes the line of what is said next
 pub page-next :
-    (count place : ℕ) (numbered : List (ℕ × Summary)) (summary : Summary) →
-    place ≡ length numbered →
-    page_of count (items (numbered ++ (place, summary) ∷ [])) ≡ page_of count (items numbered) ++ line place (summary_line summary)
-page-next count place numbered summary e =
-    let texts : List (List ℕ) = map summary_line (items numbered) in
-    let many : 0 + length texts ≡ place = omega (arith, e, length-map (items numbered) summary_line, length-map numbered (λ (n : ℕ × Summary). n.1)) in
+    (count place : ℕ) (said : List Summary) (summary : Summary) →
+    place ≡ length said →
+    page_of count (said ++ summary ∷ []) ≡ page_of count said ++ line place (summary_line summary)
+page-next count place said summary e =
+    let texts : List (List ℕ) = map summary_line said in
+    let many : 0 + length texts ≡ place = omega (arith, e, length-map said summary_line) in
     let added = rw many at (lines-append 0 texts (summary_line summary)) in
-    rw (map-append, map-append)
+    rw map-append
     (ap (λ (l : List ℕ). heading count ++ l) added ∙ sym (append_assoc (heading count) (lines 0 texts) (line place (summary_line summary))))
 
 -- a heading that counts the lines after it

@@ -1,11 +1,10 @@
 // A page: its heading, and the lines after it.
-ghost use Rattle.std.specs.Prelude.{List, Option, ◌≡◌, ◌≤◌, length};
-ghost use Rattle.std.specs.Iterator.{Drains, UpTo};
+ghost use Rattle.std.specs.Prelude.{Option, ◌≡◌, ◌≤◌, length};
 ghost use Rattle.std.specs.List.{filter_map};
 ghost use Rattle.std.proofs.lemmas.List.Edits.{sets};
 ghost use Rattle.format.specs.Display.{heading};
 ghost use Rattle.accepted.specs.Sections.{Found, sections};
-ghost use Rattle.display.specs.Summary.{page_of, page_said};
+ghost use Rattle.display.specs.Summary.{page_said};
 ghost use Rattle.display.specs.declared.summary.Summary.{Summary as Said};
 
 use crate::line::write_line;
@@ -37,30 +36,19 @@ pub fn write_heading(output: &mut [u8], count: u32) -> usize
     write_number(output, 23, count, b" section(s)\n")
 }
 
-// The heading, and a line for each of what is said, from the output's start on. Answers the length of all.
-fn write_lines<I: Iterator<Item = Summary> + Drop>(
-    output: &mut [u8],
-    count: u32,
-    summaries: I,
-) -> usize
-    requires can { I.can_next summaries }
-    requires len_bound { UpTo (I.remaining summaries) 65535 }
-    ensures page { (all : List Said) × Drains I.next_gives summaries all × (result ≡ length (page_of count all)) × (output.new ≡ sets output.old 0 (page_of count all)) }
-    ensures upper_bound { result ≤ 8388608 }
-{
-    let mut to = write_heading(output, count);
-    for (place, summary) in summaries.enumerate() {
-        to = write_line(output, to as u32, place as u32, summary);
-    }
-    to
-}
-
-// A page of a payload, from the output's start on, as far as the output goes. Answers its length.
+// A page of a payload, from the output's start on, as far as the output goes. Answers its length. A section of
+// which nothing is said has no line and no place.
 pub fn write_page<P: Page>(payload: Payload, output: &mut [u8]) -> u32
     ensures value { result ≡ length (page_said P.said payload.entry.bytes.now) }
     ensures output_after { output.new ≡ sets output.old 0 (page_said P.said payload.entry.bytes.now) }
 {
-    let count = P::line_count(payload);
-    let summaries = Sections::new(payload).filter_map(|section| P::summarize(section));
-    write_lines(output, count as u32, summaries) as u32
+    let mut to = write_heading(output, P::line_count(payload) as u32);
+    let mut place = 0;
+    for section in Sections::new(payload) {
+        if let Some(summary) = P::summarize(section) {
+            to = write_line(output, to as u32, place, summary);
+            place += 1;
+        }
+    }
+    to as u32
 }

@@ -1,14 +1,15 @@
--- What the field writers use: the letter of a byte that is escaped, and a run of bytes that stand for themselves.
+-- What the field writers use: the letter of a byte that is escaped, a run of bytes that stand for themselves, and the pairs of digits of bytes.
 -- Assumes nothing.
 use Prim.Native.Nat.{ℕ, ◌+◌, ◌*◌, ◌≤◌, ◌<◌}
 use mathlib.Core.Bool.{Bool, true, false, cond, ◌||◌}
 use mathlib.Core.List.{List, [], ◌∷◌, ◌++◌, flat_map}
 use mathlib.Core.Path.{◌≡◌, refl, sym, ap, ap₂, ◌∙◌}
+use native.Mathlib.Numerals.{add-one}
 use native.Mathlib.Omega.{arith}
 use borrow.Author.Tests.{eqb-true}
 use lib.Dec.{eqb}
-use lib.ListN.{length, get_or, take, drop, length-append, take-append-drop}
-use lib.Seq.{sets, length-take-le}
+use lib.ListN.{length, get_or, take, drop, drop_of_length-le, length-append, take-append-drop}
+use lib.Seq.{sets, drop-cons, length-take-le}
 use borrow.Rule.Slice.PartMut.{put_mid}
 use Rattle.std.proofs.lemmas.List.{take_more}
 use Rattle.layout.proofs.Lists.{flat_map-append}
@@ -123,6 +124,16 @@ pairs-cut bytes l output at w h end e =
     ap (λ (s : List ℕ). s ++ others) (sym (pairs-more bytes w h)) ∙ sym (flat_map-append hex_pair (take (w + 1) bytes) (drop (w + 1) bytes)) ∙ ap hex_pairs (take-append-drop (w + 1) bytes) in
     let room : length output ≤ at + length (first ++ pair) = omega (arith, length-append first pair, long) in
     rw (e, ← whole) (sets-joined first pair output at (at + 2 * w) (omega (arith, long)) ∙ sym (sets-within (first ++ pair) others output at room))
+
+-- ---- from a place on
+
+pub pairs_next : (s : List ℕ) (i : ℕ) → i < length s → hex_pairs (drop i s) ≡ hex_pair (get_or s i 0) ++ hex_pairs (drop (i + 1) s)
+unfolding hex_pairs flat_map
+pairs_next s i h = rw (add-one, drop-cons s i 0 h)
+
+pub pairs_end_lem : (s : List ℕ) (i : ℕ) → length s ≤ i → hex_pairs (drop i s) ≡ []
+unfolding hex_pairs flat_map
+pairs_end_lem s i h = rw (drop_of_length-le s h)
 
 -- ---- the rest of a text
 

@@ -25,15 +25,21 @@ fn well_formed_up_to(text: &[u8]) -> usize {
 
 // A number below 2^32 stands for a string: of its four bytes, the highest first, those from index start on. How many of the
 // numbers from low on and below high stand for a string that is well formed up to index end and no further.
-fn count(low: u64, high: u64, start: usize, end: usize) -> usize
+// A loop and no `filter`: in a closure the compiler does not see how short the strings are, leaves in what `validate` has for
+// long ones, and a run takes 1.7 times as long.
+fn count(low: u64, high: u64, start: usize, end: usize) -> u64
     requires { start ≤ 4 }
 {
-    (low..high)
-        .filter(|number| well_formed_up_to(&number.to_be_bytes()[4 + start..]) == end)
-        .count()
+    let mut found = 0;
+    for number in low..high {
+        if well_formed_up_to(&number.to_be_bytes()[4 + start..]) == end {
+            found += 1;
+        }
+    }
+    found
 }
 
-fn print_count(rt: &impl Print, name: &str, found: usize) -> io::Result<()> {
+fn print_count(rt: &impl Print, name: &str, found: u64) -> io::Result<()> {
     println!(rt; "{name}{found}")
 }
 

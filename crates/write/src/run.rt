@@ -37,7 +37,8 @@ fn is_of(row: Row, tag: Tag) -> bool
 
 // Stores the entries that the rows of a tag are, from an index on, at a place and on. Answers the position after them. By
 // index, which the position that is answered holds: crate table's iterator begins at the first row, and `skip` would go over
-// all rows before `first` again for each section.
+// all rows before `first` again for each section. Inlined, so that each kind of section has its entries' tag as a constant.
+#[inline(always)]
 #[tactic(auto, using(crate::proofs::RunLaws::run_steps))]
 pub fn write_run(
     source: &Source,
